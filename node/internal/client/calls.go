@@ -14,46 +14,46 @@ import (
 )
 
 // Update asks for an update until there is an answer, or the context ends. What the store refuses is a *wire.Error.
-func (client *Client) Update(ctx context.Context, update wire.Update) (acked wire.Acked, err error) {
-	err = client.post(ctx, wire.UpdatePath+waiting(waitIn(ctx)), update, &acked)
+func (c *Client) Update(ctx context.Context, update wire.Update) (acked wire.Acked, err error) {
+	err = c.post(ctx, wire.UpdatePath+waiting(waitIn(ctx)), update, &acked)
 	return acked, err
 }
 
 // Next asks for the next epoch until it has begun, or the context ends.
-func (client *Client) Next(ctx context.Context, next wire.Next) (begun wire.Begun, err error) {
-	err = client.post(ctx, wire.NextPath+waiting(waitIn(ctx)), next, &begun)
+func (c *Client) Next(ctx context.Context, next wire.Next) (begun wire.Begun, err error) {
+	err = c.post(ctx, wire.NextPath+waiting(waitIn(ctx)), next, &begun)
 	return begun, err
 }
 
 // Epoch asks for the epoch.
-func (client *Client) Epoch(ctx context.Context) (begun wire.Begun, err error) {
-	err = client.ask(ctx, http.MethodGet, wire.EpochPath, nil, &begun)
+func (c *Client) Epoch(ctx context.Context) (begun wire.Begun, err error) {
+	err = c.ask(ctx, http.MethodGet, wire.EpochPath, nil, &begun)
 	return begun, err
 }
 
 // Value reads a value. Where the site does not get in time to what was seen, that is a *wire.Error.
-func (client *Client) Value(ctx context.Context, object, seen string, wait time.Duration) (value wire.Value, err error) {
+func (c *Client) Value(ctx context.Context, object, seen string, wait time.Duration) (value wire.Value, err error) {
 	path := wire.ValuePath + url.PathEscape(object) + waiting(wait) + "&seen=" + url.QueryEscape(seen)
-	err = client.ask(ctx, http.MethodGet, path, nil, &value)
+	err = c.ask(ctx, http.MethodGet, path, nil, &value)
 	return value, err
 }
 
 // Values reads all values.
-func (client *Client) Values(ctx context.Context, seen string, wait time.Duration) (values wire.Values, err error) {
+func (c *Client) Values(ctx context.Context, seen string, wait time.Duration) (values wire.Values, err error) {
 	path := wire.ValuesPath + waiting(wait) + "&seen=" + url.QueryEscape(seen)
-	err = client.ask(ctx, http.MethodGet, path, nil, &values)
+	err = c.ask(ctx, http.MethodGet, path, nil, &values)
 	return values, err
 }
 
 // Tell tells a place, at each address once.
-func (client *Client) Tell(ctx context.Context, place epoch.Place) error {
+func (c *Client) Tell(ctx context.Context, place epoch.Place) error {
 	body, err := json.Marshal(wire.Place(place))
 	if err != nil {
 		return err
 	}
-	for try := 0; try <= len(client.config.Addresses) && ctx.Err() == nil; try++ {
+	for try := 0; try <= len(c.config.Addresses) && ctx.Err() == nil; try++ {
 		limited, cancel := context.WithTimeout(ctx, tellTime)
-		err = client.try(limited, client.address(), http.MethodPost, wire.PlacePath+waiting(tellTime), body, &wire.Done{})
+		err = c.try(limited, c.address(), http.MethodPost, wire.PlacePath+waiting(tellTime), body, &wire.Done{})
 		cancel()
 		if err == nil || isForGood(err) {
 			return refusalOf(err, place)
@@ -94,12 +94,12 @@ func refusalOf(err error, place epoch.Place) error {
 	return err
 }
 
-func (client *Client) post(ctx context.Context, path string, value, to any) error {
+func (c *Client) post(ctx context.Context, path string, value, to any) error {
 	body, err := json.Marshal(value)
 	if err != nil {
 		return err
 	}
-	return client.ask(ctx, http.MethodPost, path, body, to)
+	return c.ask(ctx, http.MethodPost, path, body, to)
 }
 
 // waitIn is how long a server is asked to wait for an answer: less than there is time, so that it can say why there is none.

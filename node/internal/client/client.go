@@ -117,20 +117,20 @@ func isForGood(err error) bool {
 }
 
 // address is who is asked now.
-func (client *Client) address() string {
-	client.lock.Lock()
-	defer client.lock.Unlock()
-	if client.named != "" {
-		return client.named
+func (c *Client) address() string {
+	c.lock.Lock()
+	defer c.lock.Unlock()
+	if c.named != "" {
+		return c.named
 	}
-	return client.config.Addresses[client.at]
+	return c.config.Addresses[c.at]
 }
 
 // learn has an address asked from now on.
-func (client *Client) learn(address string) {
-	client.lock.Lock()
-	defer client.lock.Unlock()
-	client.named = address
+func (c *Client) learn(address string) {
+	c.lock.Lock()
+	defer c.lock.Unlock()
+	c.named = address
 }
 
 // mayBeAsked is whether an answer of one address may name another one. One of another scheme is not asked, since it would get the token.
@@ -140,16 +140,16 @@ func mayBeAsked(address, named string) bool {
 }
 
 // fail has the next call begin elsewhere. Where the one that an address named does not answer, that is the next address.
-func (client *Client) fail(address string) {
-	client.lock.Lock()
-	defer client.lock.Unlock()
-	if client.named == address || client.named == "" && client.config.Addresses[client.at] == address {
-		client.named, client.at = "", (client.at+1)%len(client.config.Addresses)
+func (c *Client) fail(address string) {
+	c.lock.Lock()
+	defer c.lock.Unlock()
+	if c.named == address || c.named == "" && c.config.Addresses[c.at] == address {
+		c.named, c.at = "", (c.at+1)%len(c.config.Addresses)
 	}
 }
 
 // try asks one address.
-func (client *Client) try(ctx context.Context, address, method, path string, body []byte, to any) error {
+func (c *Client) try(ctx context.Context, address, method, path string, body []byte, to any) error {
 	request, err := http.NewRequestWithContext(ctx, method, address+path, bytes.NewReader(body))
 	if err != nil {
 		return err
@@ -157,10 +157,10 @@ func (client *Client) try(ctx context.Context, address, method, path string, bod
 	if body != nil {
 		request.Header.Set("Content-Type", "application/json")
 	}
-	if client.config.Token != nil {
-		request.Header.Set("Authorization", "Bearer "+client.config.Token())
+	if c.config.Token != nil {
+		request.Header.Set("Authorization", "Bearer "+c.config.Token())
 	}
-	writer, err := answer(client.http, request, to)
+	writer, err := answer(c.http, request, to)
 	var told *wire.Error
 	if errors.As(err, &told) && told.Writer != "" {
 		writer = told.Writer
@@ -168,23 +168,23 @@ func (client *Client) try(ctx context.Context, address, method, path string, bod
 	isNamed := writer != address && mayBeAsked(address, writer)
 	switch {
 	case isNamed && (err == nil || isForGood(err) || told != nil && told.Name == wire.NotWriter):
-		client.learn(writer)
+		c.learn(writer)
 	case err == nil || isForGood(err):
-		client.learn(address)
+		c.learn(address)
 	case told != nil && told.Name.Again() == wire.Here:
 		// It has an answer later.
 	default:
-		client.fail(address)
+		c.fail(address)
 	}
 	return err
 }
 
 // ask asks until there is an answer for good, or the context ends. Then the error has the last reason.
-func (client *Client) ask(ctx context.Context, method, path string, body []byte, to any) error {
+func (c *Client) ask(ctx context.Context, method, path string, body []byte, to any) error {
 	pause, last := leastPause, error(nil)
 	for try := 0; ; try++ {
 		limited, cancel := context.WithTimeout(ctx, tryTime)
-		err := client.try(limited, client.address(), method, path, body, to)
+		err := c.try(limited, c.address(), method, path, body, to)
 		cancel()
 		if err == nil || isForGood(err) {
 			return err
@@ -192,7 +192,7 @@ func (client *Client) ask(ctx context.Context, method, path string, body []byte,
 		if ctx.Err() == nil || last == nil {
 			last = err
 		}
-		if (try+1)%(len(client.config.Addresses)+1) == 0 {
+		if (try+1)%(len(c.config.Addresses)+1) == 0 {
 			select {
 			case <-time.After(pause):
 			case <-ctx.Done():
@@ -211,6 +211,6 @@ func (client *Client) ask(ctx context.Context, method, path string, body []byte,
 // A NoAnswerError says that there was no answer in the time that there was.
 type NoAnswerError struct{ Last error }
 
-func (err *NoAnswerError) Error() string { return fmt.Sprintf("there is no answer yet: %v", err.Last) }
+func (e *NoAnswerError) Error() string { return fmt.Sprintf("there is no answer yet: %v", e.Last) }
 
-func (err *NoAnswerError) Unwrap() error { return err.Last }
+func (e *NoAnswerError) Unwrap() error { return e.Last }

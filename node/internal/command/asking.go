@@ -30,29 +30,29 @@ type askingSettings struct {
 }
 
 // add adds the settings of one who asks primaries or sites, as the key says.
-func (own *askingSettings) add(set *settings.Set, key, help string) {
-	own.key = key
-	set.List(&own.addresses, key, help)
-	set.Text(&own.authority, "authority", "", "`FILE` in PEM with the authority of their certificates")
-	set.Text(&own.token, "token", "", "`FILE` with the own token, in its first line")
+func (a *askingSettings) add(set *settings.Set, key, help string) {
+	a.key = key
+	set.List(&a.addresses, key, help)
+	set.Text(&a.authority, "authority", "", "`FILE` in PEM with the authority of their certificates")
+	set.Text(&a.token, "token", "", "`FILE` with the own token, in its first line")
 }
 
-func (own *askingSettings) addPatience(set *settings.Set) {
-	set.Seconds(&own.patience, "patience", time.Minute, 24*time.Hour, "`SECONDS` up to which it asks again")
+func (a *askingSettings) addPatience(set *settings.Set) {
+	set.Seconds(&a.patience, "patience", time.Minute, 24*time.Hour, "`SECONDS` up to which it asks again")
 }
 
-func (own *askingSettings) client(log *logs.Log) (*client.Client, error) {
-	config := client.Config{Addresses: own.addresses}
+func (a *askingSettings) client(log *logs.Log) (*client.Client, error) {
+	config := client.Config{Addresses: a.addresses}
 	var err error
-	if len(own.addresses) == 0 {
-		return nil, wrong("%s: the addresses are missing", own.key)
+	if len(a.addresses) == 0 {
+		return nil, wrong("%s: the addresses are missing", a.key)
 	}
-	config.TLS, err = engine.TLSOf(own.authority, "", "", log)
+	config.TLS, err = engine.TLSOf(a.authority, "", "", log)
 	if err != nil {
 		return nil, err
 	}
-	if own.token != "" {
-		tokens, err := reload.New(log, func() ([]serve.Token, error) { return serve.TokensOf(own.token) }, own.token)
+	if a.token != "" {
+		tokens, err := reload.New(log, func() ([]serve.Token, error) { return serve.TokensOf(a.token) }, a.token)
 		if err != nil {
 			return nil, err
 		}
@@ -62,13 +62,13 @@ func (own *askingSettings) client(log *logs.Log) (*client.Client, error) {
 }
 
 // asks gives what runs a command that asks for the time that it has patience.
-func (own *askingSettings) asks(log *logs.Log, ask func(context.Context, *client.Client, []string) error) func(context.Context, []string) error {
+func (a *askingSettings) asks(log *logs.Log, ask func(context.Context, *client.Client, []string) error) func(context.Context, []string) error {
 	return func(ctx context.Context, words []string) error {
-		asker, err := own.client(log)
+		asker, err := a.client(log)
 		if err != nil {
 			return err
 		}
-		limited, cancel := context.WithTimeout(ctx, own.patience)
+		limited, cancel := context.WithTimeout(ctx, a.patience)
 		defer cancel()
 		return ask(limited, asker, words)
 	}

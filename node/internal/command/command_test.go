@@ -39,16 +39,16 @@ type text struct {
 	all  bytes.Buffer
 }
 
-func (text *text) Write(more []byte) (int, error) {
-	text.lock.Lock()
-	defer text.lock.Unlock()
-	return text.all.Write(more)
+func (tx *text) Write(more []byte) (int, error) {
+	tx.lock.Lock()
+	defer tx.lock.Unlock()
+	return tx.all.Write(more)
 }
 
-func (text *text) String() string {
-	text.lock.Lock()
-	defer text.lock.Unlock()
-	return text.all.String()
+func (tx *text) String() string {
+	tx.lock.Lock()
+	defer tx.lock.Unlock()
+	return tx.all.String()
 }
 
 // run does a command, and gives its status, what it printed and what it logged.
@@ -154,16 +154,16 @@ type deployment struct {
 }
 
 // start runs a command until its stop is called, which gives its status and its log.
-func (deployment *deployment) start(name string, words ...string) {
+func (d *deployment) start(name string, words ...string) {
 	ctx, cancel := context.WithCancel(context.Background())
-	versions := deployment.versions
+	versions := d.versions
 	type end struct {
 		status exit.Status
 		log    string
 	}
 	ended := make(chan end, 1)
 	go func() {
-		status, _, log := runAs(ctx, versions, append(words, deployment.common...)...)
+		status, _, log := runAs(ctx, versions, append(words, d.common...)...)
 		ended <- end{status, log}
 	}()
 	var once sync.Once
@@ -172,10 +172,10 @@ func (deployment *deployment) start(name string, words ...string) {
 		once.Do(func() { cancel(); was = <-ended })
 		return was.status, was.log
 	}
-	deployment.stops[name], deployment.words[name] = stop, words
-	deployment.t.Cleanup(func() {
-		if _, log := stop(); deployment.t.Failed() {
-			deployment.t.Log(name, log)
+	d.stops[name], d.words[name] = stop, words
+	d.t.Cleanup(func() {
+		if _, log := stop(); d.t.Failed() {
+			d.t.Log(name, log)
 		}
 	})
 }
@@ -204,9 +204,9 @@ func deploy(t *testing.T, common ...string) *deployment {
 	return deployment
 }
 
-func (deployment *deployment) is(status exit.Status, want string, words ...string) {
-	deployment.t.Helper()
-	is(deployment.t, status, want, append(words, deployment.common...)...)
+func (d *deployment) is(status exit.Status, want string, words ...string) {
+	d.t.Helper()
+	is(d.t, status, want, append(words, d.common...)...)
 }
 
 func TestADeploymentFromItsBeginningToItsEnd(t *testing.T) {
@@ -266,9 +266,9 @@ func TestAllComeBackAfterOtherDeclarations(t *testing.T) {
 }
 
 // ended waits until a process has ended by itself.
-func (deployment *deployment) ended(name string) (exit.Status, string) {
+func (d *deployment) ended(name string) (exit.Status, string) {
 	time.Sleep(2 * time.Second)
-	return deployment.stops[name]()
+	return d.stops[name]()
 }
 
 // certificate writes a certificate for this computer, which is its own authority, and its key.

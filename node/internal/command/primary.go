@@ -39,35 +39,35 @@ func primarySettings(program *Program, set *settings.Set) func(context.Context, 
 	return func(ctx context.Context, _ []string) error { return own.run(ctx, program) }
 }
 
-func (own *primaryOwn) config(program *Program) (config primary.Config, err error) {
-	if err = own.serving.check(program.Log); err != nil {
+func (p *primaryOwn) config(program *Program) (config primary.Config, err error) {
+	if err = p.serving.check(program.Log); err != nil {
 		return config, err
 	}
-	if own.archive == "" {
+	if p.archive == "" {
 		return config, wrong("archive: the folder is missing")
 	}
-	config = primary.Config{Open: program.Open, Host: own.serving.host, Versions: program.Versions, Every: own.every,
-		Remembers: own.remembers, Seconds: own.seconds, Folder: own.archive, Copies: int(own.copies), Log: program.Log}
-	config.Address, err = own.serving.address(own.address)
+	config = primary.Config{Open: program.Open, Host: p.serving.host, Versions: program.Versions, Every: p.every,
+		Remembers: p.remembers, Seconds: p.seconds, Folder: p.archive, Copies: int(p.copies), Log: program.Log}
+	config.Address, err = p.serving.address(p.address)
 	if err != nil {
 		return config, err
 	}
-	if own.declarations != "" {
-		text, err := os.ReadFile(own.declarations)
+	if p.declarations != "" {
+		text, err := os.ReadFile(p.declarations)
 		if err != nil {
 			return config, err
 		}
 		config.Declarations = epoch.Declarations(string(text))
 	}
-	if err = archive.MakeFolder(own.archive); err != nil {
+	if err = archive.MakeFolder(p.archive); err != nil {
 		return config, err
 	}
-	config.Engine, err = own.engine.open(program.Log)
+	config.Engine, err = p.engine.open(program.Log)
 	return config, err
 }
 
-func (own *primaryOwn) run(ctx context.Context, program *Program) error {
-	config, err := own.config(program)
+func (p *primaryOwn) run(ctx context.Context, program *Program) error {
+	config, err := p.config(program)
 	if err != nil {
 		return err
 	}
@@ -76,17 +76,17 @@ func (own *primaryOwn) run(ctx context.Context, program *Program) error {
 	if err != nil {
 		return err
 	}
-	secure, err := engine.TLSOf(own.authority, "", "", program.Log)
+	secure, err := engine.TLSOf(p.authority, "", "", program.Log)
 	if err != nil {
 		return err
 	}
 	lag := &numbers.Lag{}
-	seen := numbers.OfPrimary(program.version(), own.serving.open, process.Status)
-	handler := serve.NewPrimary(serve.Config{Guard: &own.serving.guard, Requests: own.serving.mostRequests(),
+	seen := numbers.OfPrimary(program.version(), p.serving.open, process.Status)
+	handler := serve.NewPrimary(serve.Config{Guard: &p.serving.guard, Requests: p.serving.mostRequests(),
 		Ready: func() error { return isReady(process.Status()) }, Numbers: seen.Handler(),
 		Page: numbers.PageOfPrimary(config.Host, lag, process.Status)}, process, serve.NewPasser(config.Address, secure), seen.Waited)
 	program.Log.Info("starts", "command", "primary", "version", program.version(), "host", config.Host, "address", config.Address)
-	return own.serving.run(ctx, program.Log, handler, func(ctx context.Context) error {
+	return p.serving.run(ctx, program.Log, handler, func(ctx context.Context) error {
 		go lag.Run(ctx, process.Status)
 		return process.Run(ctx)
 	})

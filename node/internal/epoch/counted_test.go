@@ -39,15 +39,15 @@ func grown(t *testing.T, updates int, sites ...string) *world {
 }
 
 // leave takes a site out, by the step that a wish would write.
-func (world *world) leave(sites ...string) {
+func (w *world) leave(sites ...string) {
 	steps := []script.Step{}
 	for _, site := range sites {
 		steps = append(steps, script.Step{Kind: script.Leave, Site: site})
 	}
-	if err := world.core.add(steps); err != nil {
-		world.t.Fatal(err)
+	if err := w.core.add(steps); err != nil {
+		w.t.Fatal(err)
 	}
-	world.keep(world.seal())
+	w.keep(w.seal())
 }
 
 // However much comes while one turn is on its way, what is written is read by all.
@@ -94,9 +94,9 @@ func TestNoEntryCountsMoreThanItsReaderTakes(t *testing.T) {
 }
 
 // workLong is as many wakes as come while a turn is on its way for some time.
-func (world *world) workLong() {
+func (w *world) workLong() {
 	for wakes := 0; wakes < 60; wakes++ {
-		world.work()
+		w.work()
 	}
 }
 

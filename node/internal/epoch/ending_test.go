@@ -12,27 +12,27 @@ import (
 	"ordup.dev/node/internal/script"
 )
 
-func (world *world) next(declarations ...string) {
-	world.t.Helper()
-	if err := world.core.AskNext(Wish{From: world.core.Epoch(), Declarations: declarations}); err != nil {
-		world.t.Fatal(err)
+func (w *world) next(declarations ...string) {
+	w.t.Helper()
+	if err := w.core.AskNext(Wish{From: w.core.Epoch(), Declarations: declarations}); err != nil {
+		w.t.Fatal(err)
 	}
 }
 
 // count is how many lines of the script begin so.
-func (world *world) count(begins string) int {
+func (w *world) count(begins string) int {
 	count := 0
-	for _, text := range world.script {
+	for _, text := range w.script {
 		count += strings.Count(string(text), "\n"+begins+" ")
 	}
 	return count
 }
 
-func (world *world) tellAll() {
-	world.t.Helper()
-	for _, site := range world.core.sites.all {
+func (w *world) tellAll() {
+	w.t.Helper()
+	for _, site := range w.core.sites.all {
 		if !site.leaves {
-			world.tell(site.name, world.core.updates)
+			w.tell(site.name, w.core.updates)
 		}
 	}
 }

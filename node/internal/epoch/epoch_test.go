@@ -47,49 +47,49 @@ func newWorld(t *testing.T, settings script.Settings, declarations []string) *wo
 }
 
 // replay gives a core that has run the script.
-func (world *world) replay(config Config) *Core {
-	world.t.Helper()
-	core := New(config, world.first)
-	for at, text := range world.script[world.first-1:] {
+func (w *world) replay(config Config) *Core {
+	w.t.Helper()
+	core := New(config, w.first)
+	for at, text := range w.script[w.first-1:] {
 		entry, err := script.Parse(text)
 		if err != nil {
-			world.t.Fatal(err)
+			w.t.Fatal(err)
 		}
-		if err = core.Replay(world.first+int64(at), entry); err != nil {
-			world.t.Fatal(err)
+		if err = core.Replay(w.first+int64(at), entry); err != nil {
+			w.t.Fatal(err)
 		}
 	}
 	return core
 }
 
-func (world *world) work() {
-	world.t.Helper()
-	if _, err := world.core.Work(world.now); err != nil {
-		world.t.Fatal(err)
+func (w *world) work() {
+	w.t.Helper()
+	if _, err := w.core.Work(w.now); err != nil {
+		w.t.Fatal(err)
 	}
 }
 
 // seal closes the open turn, and returns the turn.
-func (world *world) seal() *Turn {
-	world.t.Helper()
-	world.work()
-	turn, err := world.core.Seal(world.now)
+func (w *world) seal() *Turn {
+	w.t.Helper()
+	w.work()
+	turn, err := w.core.Seal(w.now)
 	if err != nil {
-		world.t.Fatal(err)
+		w.t.Fatal(err)
 	}
 	return turn
 }
 
 // keep writes a turn into the script.
-func (world *world) keep(turn *Turn) {
-	world.script = append(world.script, turn.Text)
-	world.core.Written(turn.Number)
-	world.absent = append(world.absent, turn.Absent...)
+func (w *world) keep(turn *Turn) {
+	w.script = append(w.script, turn.Text)
+	w.core.Written(turn.Number)
+	w.absent = append(w.absent, turn.Absent...)
 	if turn.First > 0 {
-		world.first = turn.First
+		w.first = turn.First
 	}
 	for _, answer := range turn.Answers {
-		world.told = append(world.told, fmt.Sprintf("%s %d %s", answer.Client, answer.Number, answer.Answer))
+		w.told = append(w.told, fmt.Sprintf("%s %d %s", answer.Client, answer.Number, answer.Answer))
 	}
 }
 
@@ -97,41 +97,41 @@ func (world *world) keep(turn *Turn) {
 const mostTurns = 1000
 
 // write writes turns until there is nothing to write, and returns how many.
-func (world *world) write() int {
-	world.t.Helper()
+func (w *world) write() int {
+	w.t.Helper()
 	for count := 0; count < mostTurns; count++ {
-		turn := world.seal()
+		turn := w.seal()
 		if turn == nil {
 			return count
 		}
-		world.keep(turn)
+		w.keep(turn)
 	}
-	world.t.Fatal("there is always one more turn")
+	w.t.Fatal("there is always one more turn")
 	return 0
 }
 
-func (world *world) ask(client string, number int64, changes string) Verdict {
-	world.t.Helper()
-	verdicts, err := world.core.Ask([]Request{{client, number, changes}}, world.now)
+func (w *world) ask(client string, number int64, changes string) Verdict {
+	w.t.Helper()
+	verdicts, err := w.core.Ask([]Request{{client, number, changes}}, w.now)
 	if err != nil {
-		world.t.Fatal(err)
+		w.t.Fatal(err)
 	}
 	return verdicts[0]
 }
 
-func (world *world) tell(site string, applied int64) {
-	world.t.Helper()
-	if err := world.core.Tell(Place{Site: site, Epoch: world.core.Epoch(), Applied: applied, Entry: world.core.written}, world.now); err != nil {
-		world.t.Fatal(err)
+func (w *world) tell(site string, applied int64) {
+	w.t.Helper()
+	if err := w.core.Tell(Place{Site: site, Epoch: w.core.Epoch(), Applied: applied, Entry: w.core.written}, w.now); err != nil {
+		w.t.Fatal(err)
 	}
 }
 
 // answer is what the client was told last.
-func (world *world) answer() string {
-	if len(world.told) == 0 {
+func (w *world) answer() string {
+	if len(w.told) == 0 {
 		return ""
 	}
-	return world.told[len(world.told)-1]
+	return w.told[len(w.told)-1]
 }
 
 func is(t *testing.T, wants, has any) {

@@ -110,13 +110,13 @@ func TestAnAnswerIsOfWhoAsked(t *testing.T) {
 }
 
 // readers have run the script, each in its way, and take the next entry by its text.
-func (world *world) readers() map[string]func(*script.Entry) error {
-	world.t.Helper()
-	core, judge := world.replay(config("p2")), &Judge{}
-	for at, text := range world.script {
+func (w *world) readers() map[string]func(*script.Entry) error {
+	w.t.Helper()
+	core, judge := w.replay(config("p2")), &Judge{}
+	for at, text := range w.script {
 		entry, err := script.Parse(text)
-		is(world.t, nil, err)
-		is(world.t, nil, judge.Take(int64(at+1), entry))
+		is(w.t, nil, err)
+		is(w.t, nil, judge.Take(int64(at+1), entry))
 	}
 	judged := core.Next()
 	return map[string]func(*script.Entry) error{

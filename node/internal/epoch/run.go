@@ -11,94 +11,94 @@ import (
 )
 
 // run runs steps, and notes what comes of them. After an error the core is of no more use.
-func (core *Core) run(steps []script.Step) error {
-	if core.failure == nil {
-		core.failure = core.runAll(steps)
+func (c *Core) run(steps []script.Step) error {
+	if c.failure == nil {
+		c.failure = c.runAll(steps)
 	}
-	return core.failure
+	return c.failure
 }
 
-func (core *Core) runAll(steps []script.Step) error {
+func (c *Core) runAll(steps []script.Step) error {
 	if len(steps) > 0 && steps[0].Kind == script.Begin {
-		if err := core.begin(steps[0].Settings); err != nil {
+		if err := c.begin(steps[0].Settings); err != nil {
 			return err
 		}
 	}
-	core.lines = core.lines[:0]
+	c.lines = c.lines[:0]
 	for at := range steps {
-		core.lines = steps[at].AppendLines(core.lines)
+		c.lines = steps[at].AppendLines(c.lines)
 	}
 	answers := answers{}
-	if len(core.lines) > 0 {
-		if core.store == nil {
-			return &BrokenError{core.running, "it comes before the beginning of its epoch"}
+	if len(c.lines) > 0 {
+		if c.store == nil {
+			return &BrokenError{c.running, "it comes before the beginning of its epoch"}
 		}
-		given, err := core.store.Answers(core.lines)
+		given, err := c.store.Answers(c.lines)
 		if err != nil {
-			return core.unanswered(err)
+			return c.unanswered(err)
 		}
 		answers.rest = given
 	}
 	for at := range steps {
-		if why := core.lawless(&steps[at]); why != "" {
-			return &BrokenError{core.running, why}
+		if why := c.lawless(&steps[at]); why != "" {
+			return &BrokenError{c.running, why}
 		}
-		core.note(&steps[at], &answers)
+		c.note(&steps[at], &answers)
 		if answers.bad != "" {
-			return &BrokenError{core.running, fmt.Sprintf("the store answers %.80s to the step %s", answers.bad, steps[at].Kind)}
+			return &BrokenError{c.running, fmt.Sprintf("the store answers %.80s to the step %s", answers.bad, steps[at].Kind)}
 		}
 	}
 	return nil
 }
 
 // unanswered is the error of lines that have no answers: where the store answers what is none, it is none of this script.
-func (core *Core) unanswered(err error) error {
+func (c *Core) unanswered(err error) error {
 	var unknown *answer.UnknownError
 	if errors.As(err, &unknown) {
-		return &BrokenError{core.running, unknown.Error()}
+		return &BrokenError{c.running, unknown.Error()}
 	}
-	return fmt.Errorf("run the lines of the entry %d: %w", core.running, err)
+	return fmt.Errorf("run the lines of the entry %d: %w", c.running, err)
 }
 
 // note notes what came of a step.
-func (core *Core) note(step *script.Step, answers *answers) {
+func (c *Core) note(step *script.Step, answers *answers) {
 	switch step.Kind {
 	case script.Declare:
-		core.noteDeclared(step, answers)
+		c.noteDeclared(step, answers)
 	case script.Known:
-		core.carry.clients.carry(step, core.running)
+		c.carry.clients.carry(step, c.running)
 	case script.Ask:
-		core.noteAsk(step, answers)
+		c.noteAsk(step, answers)
 	case script.Elapsed:
-		core.clock += step.Seconds
+		c.clock += step.Seconds
 	case script.Settle:
 		for count := int64(0); count < step.Count; count++ {
-			core.noteSettle(answers)
+			c.noteSettle(answers)
 		}
 	case script.Tell:
-		core.noteTell(step, answers)
+		c.noteTell(step, answers)
 	case script.Wish:
-		core.noteWish(step, core.running)
+		c.noteWish(step, c.running)
 	case script.Want:
-		core.wish.Declarations = append(core.wish.Declarations, step.Words)
+		c.wish.Declarations = append(c.wish.Declarations, step.Words)
 	case script.Leave:
-		core.sites.leave(step.Site, core.running)
+		c.sites.leave(step.Site, c.running)
 	case script.Gone:
-		core.noteTell(step, answers)
-		core.sites.of(step.Site).gone = true
+		c.noteTell(step, answers)
+		c.sites.of(step.Site).gone = true
 	}
 }
 
-func (core *Core) noteDeclared(step *script.Step, answers *answers) {
+func (c *Core) noteDeclared(step *script.Step, answers *answers) {
 	given := answers.next()
 	switch given := given.(type) {
 	case answer.Started:
 		return
 	case answer.Declared:
 		words := strings.Fields(step.Words)
-		switch site := core.sites.of(given.Name); {
+		switch site := c.sites.of(given.Name); {
 		case given.Kind == "site":
-			core.sites.add(strings.Clone(given.Name))
+			c.sites.add(strings.Clone(given.Name))
 		case given.Kind == "limit" && site != nil && len(words) > 2:
 			site.limits = append(site.limits, strings.Join(words[2:], " "))
 		}
@@ -107,19 +107,19 @@ func (core *Core) noteDeclared(step *script.Step, answers *answers) {
 	answers.refuse(given)
 }
 
-func (core *Core) noteAsk(step *script.Step, answers *answers) {
+func (c *Core) noteAsk(step *script.Step, answers *answers) {
 	asked := asker{step.Client, step.Number, step.Digest}
-	core.asks++
+	c.asks++
 	given := answers.next()
 	switch given := given.(type) {
 	case answer.Proposed:
-		if int64(given.Place) == core.updates+1 {
-			core.updates++
-			core.waiting.push(asked)
+		if int64(given.Place) == c.updates+1 {
+			c.updates++
+			c.waiting.push(asked)
 			return
 		}
 	case *answer.Refused:
-		core.decide(asked, script.Answer{Refusal: RefusalOf(given)})
+		c.decide(asked, script.Answer{Refusal: RefusalOf(given)})
 		return
 	}
 	answers.refuse(given)
@@ -130,7 +130,7 @@ func RefusalOf(given *answer.Refused) script.Refusal {
 	return script.Refusal{Number: int64(given.Number), Name: strings.Clone(given.Name)}
 }
 
-func (core *Core) noteSettle(answers *answers) {
+func (c *Core) noteSettle(answers *answers) {
 	given := answers.next()
 	settled, isSettled := given.(answer.Settled)
 	if !isSettled {
@@ -138,35 +138,35 @@ func (core *Core) noteSettle(answers *answers) {
 		return
 	}
 	if settled.State != answer.Acked {
-		core.noteRound(settled.Sites)
+		c.noteRound(settled.Sites)
 		return
 	}
 	place := int64(settled.Place)
-	if place != core.acknowledged+1 || place > core.updates {
+	if place != c.acknowledged+1 || place > c.updates {
 		answers.refuse(given)
 		return
 	}
-	core.acknowledged, core.round = place, nil
-	core.decide(core.waiting.pop(), script.Answer{Place: place, Epoch: core.epoch})
+	c.acknowledged, c.round = place, nil
+	c.decide(c.waiting.pop(), script.Answer{Place: place, Epoch: c.epoch})
 }
 
 // noteRound notes the sites that the head waits for.
-func (core *Core) noteRound(sites []string) {
-	isNew := core.round == nil
-	core.round = []string{}
+func (c *Core) noteRound(sites []string) {
+	isNew := c.round == nil
+	c.round = []string{}
 	for _, name := range sites {
-		site := core.sites.of(name)
+		site := c.sites.of(name)
 		if site == nil {
 			continue
 		}
-		core.round = append(core.round, site.name)
+		c.round = append(c.round, site.name)
 		if isNew {
 			site.rounds++
 		}
 	}
 }
 
-func (core *Core) noteTell(step *script.Step, answers *answers) {
+func (c *Core) noteTell(step *script.Step, answers *answers) {
 	for count := int64(0); count < step.Count; count++ {
 		given := answers.next()
 		if _, isSent := given.(answer.Sent); !isSent {
@@ -177,7 +177,7 @@ func (core *Core) noteTell(step *script.Step, answers *answers) {
 			answers.refuse(given)
 		}
 	}
-	site := core.sites.of(step.Site)
+	site := c.sites.of(step.Site)
 	given := answers.next()
 	reported, isReported := given.(answer.Reported)
 	if place := site.applied + step.Count; !isReported || reported.Site != site.name || int64(reported.Applied) != place {
@@ -188,9 +188,9 @@ func (core *Core) noteTell(step *script.Step, answers *answers) {
 }
 
 // decide has the answer to a request in the entry that is run.
-func (core *Core) decide(asked asker, decided script.Answer) {
-	core.clients.answer(asked, decided, core.running)
-	core.decided = append(core.decided,
+func (c *Core) decide(asked asker, decided script.Answer) {
+	c.clients.answer(asked, decided, c.running)
+	c.decided = append(c.decided,
 		script.Step{Kind: script.Answered, Client: asked.name, Number: asked.number, Digest: asked.digest, Answer: decided})
 }
 

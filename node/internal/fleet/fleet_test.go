@@ -18,9 +18,9 @@ type teller struct {
 	err  error
 }
 
-func (teller *teller) Tell(_ context.Context, place epoch.Place) error {
-	teller.told = append(teller.told, fmt.Sprint(place.Site, place.Member, place.Epoch, place.Applied, place.Entry))
-	return teller.err
+func (tl *teller) Tell(_ context.Context, place epoch.Place) error {
+	tl.told = append(tl.told, fmt.Sprint(place.Site, place.Member, place.Epoch, place.Applied, place.Entry))
+	return tl.err
 }
 
 // Keys are those of the fleet far in an engine, or an error.
@@ -29,11 +29,11 @@ type keys struct {
 	err   error
 }
 
-func (keys *keys) Holds(context.Context, string) (holds []engine.Hold, err error) {
-	for _, name := range keys.names {
+func (k *keys) Holds(context.Context, string) (holds []engine.Hold, err error) {
+	for _, name := range k.names {
 		holds = append(holds, engine.Hold{Key: name, IsLeased: true})
 	}
-	return holds, keys.err
+	return holds, k.err
 }
 
 func start(up *teller, engine Engine) (*Fleet, func(member string, epochs, applied, entry int64) error) {

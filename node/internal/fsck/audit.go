@@ -27,16 +27,16 @@ type Epoch struct {
 }
 
 // String is a line.
-func (checked Epoch) String() string {
-	text := fmt.Sprintf("epoch %d entries %d-%d requests %d updates %d clients %d", checked.Number, checked.First, checked.Last,
-		checked.Requests, checked.Updates, checked.Clients)
+func (e Epoch) String() string {
+	text := fmt.Sprintf("epoch %d entries %d-%d requests %d updates %d clients %d", e.Number, e.First, e.Last,
+		e.Requests, e.Updates, e.Clients)
 	names := []string{}
-	for name := range checked.Rounds {
+	for name := range e.Rounds {
 		names = append(names, name)
 	}
 	sort.Strings(names)
 	for _, name := range names {
-		text += fmt.Sprintf(" %s yes %d", name, checked.Rounds[name])
+		text += fmt.Sprintf(" %s yes %d", name, e.Rounds[name])
 	}
 	return text
 }
@@ -60,37 +60,37 @@ func New(config Config, first int64) *Audit {
 }
 
 // open gives the core a store, which the audit asks too.
-func (audit *Audit) open() (store.Store, error) {
-	opened, err := audit.config.Open()
-	audit.store = opened
+func (a *Audit) open() (store.Store, error) {
+	opened, err := a.config.Open()
+	a.store = opened
 	return opened, err
 }
 
 // Close gives back what the audit has.
-func (audit *Audit) Close() { audit.core.Close() }
+func (a *Audit) Close() { a.core.Close() }
 
 // Next is the number of the entry that comes next.
-func (audit *Audit) Next() int64 { return audit.last + 1 }
+func (a *Audit) Next() int64 { return a.last + 1 }
 
 // Core is what the entries came to.
-func (audit *Audit) Core() *epoch.Core { return audit.core }
+func (a *Audit) Core() *epoch.Core { return a.core }
 
 // Take checks an entry.
-func (audit *Audit) Take(number int64, entry *script.Entry) error {
-	if audit.store != nil && entry.Begins() {
-		if err := audit.follows(number, entry); err != nil {
+func (a *Audit) Take(number int64, entry *script.Entry) error {
+	if a.store != nil && entry.Begins() {
+		if err := a.follows(number, entry); err != nil {
 			return err
 		}
-		if err := audit.endEpoch(isSame(audit.core, entry)); err != nil {
+		if err := a.endEpoch(isSame(a.core, entry)); err != nil {
 			return err
 		}
 	}
-	if err := audit.core.Replay(number, entry); err != nil {
+	if err := a.core.Replay(number, entry); err != nil {
 		return err
 	}
-	audit.last = number
-	if entry.Epoch == audit.core.Epoch() {
-		audit.lastOf = number
+	a.last = number
+	if entry.Epoch == a.core.Epoch() {
+		a.lastOf = number
 	}
 	return nil
 }
@@ -101,8 +101,8 @@ func isSame(core *epoch.Core, entry *script.Entry) bool {
 }
 
 // follows looks whether an epoch begins with what the one before ended with.
-func (audit *Audit) follows(number int64, entry *script.Entry) error {
-	text, err := audit.store.NextDeclarations()
+func (a *Audit) follows(number int64, entry *script.Entry) error {
+	text, err := a.store.NextDeclarations()
 	if err != nil {
 		return &epoch.BrokenError{Number: number, Why: fmt.Sprintf("the epoch before it has not ended: %v", err)}
 	}
@@ -124,51 +124,51 @@ func (audit *Audit) follows(number int64, entry *script.Entry) error {
 				Why: fmt.Sprintf("it begins with `%s`, and the epoch before ended with `%s`", step.Words, values[words[1]])}
 		}
 	}
-	if isSame(audit.core, entry) && strings.Join(begins, "\n") != strings.Join(ends, "\n") {
+	if isSame(a.core, entry) && strings.Join(begins, "\n") != strings.Join(ends, "\n") {
 		return &epoch.BrokenError{Number: number, Why: "it has other declarations than the epoch before ended with, and no operator gave them"}
 	}
 	return nil
 }
 
 // endEpoch checks the records of an epoch. Those of an epoch are kept for the next one, if they go on there.
-func (audit *Audit) endEpoch(goesOn bool) error {
-	status := audit.core.Status(0)
-	checked := Epoch{Number: status.Epoch, First: audit.core.First(), Last: audit.lastOf, Requests: status.Requests, Updates: status.Updates,
+func (a *Audit) endEpoch(goesOn bool) error {
+	status := a.core.Status(0)
+	checked := Epoch{Number: status.Epoch, First: a.core.First(), Last: a.lastOf, Requests: status.Requests, Updates: status.Updates,
 		Clients: status.Clients, Rounds: map[string]uint64{}}
 	records := map[string]string{}
 	for _, site := range status.Sites {
-		record, err := audit.store.Record(site.Name)
+		record, err := a.store.Record(site.Name)
 		if err != nil {
 			return err
 		}
-		rounds, err := audit.check(status.Epoch, site.Name, record)
+		rounds, err := a.check(status.Epoch, site.Name, record)
 		if err != nil {
 			return err
 		}
 		checked.Rounds[site.Name], records[site.Name] = rounds, record
 	}
-	audit.before = nil
+	a.before = nil
 	if goesOn {
-		audit.before = records
+		a.before = records
 	}
-	audit.config.Tell(checked)
+	a.config.Tell(checked)
 	return nil
 }
 
 // check has a record checked, alone and behind that of the epoch before.
-func (audit *Audit) check(number int64, site, record string) (uint64, error) {
-	verdict, err := audit.config.Checker.Check([]byte(record))
+func (a *Audit) check(number int64, site, record string) (uint64, error) {
+	verdict, err := a.config.Checker.Check([]byte(record))
 	if err != nil {
 		return 0, err
 	}
 	if verdict.Kind != answer.Yes {
 		return 0, &RecordError{number, site, fmt.Sprintf("%s %d %s", verdict.Kind, verdict.Row, verdict.Reason)}
 	}
-	before, isThere := audit.before[site]
+	before, isThere := a.before[site]
 	if !isThere {
 		return verdict.Rounds, nil
 	}
-	series, err := audit.config.Checker.CheckSeries([]byte(before + record))
+	series, err := a.config.Checker.CheckSeries([]byte(before + record))
 	if err != nil {
 		return 0, err
 	}
@@ -179,8 +179,8 @@ func (audit *Audit) check(number int64, site, record string) (uint64, error) {
 }
 
 // HasEnded is whether the last epoch is over: its end was due, all is acknowledged, and it waits for no site.
-func (audit *Audit) HasEnded() bool {
-	status := audit.core.Status(0)
+func (a *Audit) HasEnded() bool {
+	status := a.core.Status(0)
 	hasEnded := status.Due && status.Acknowledged == status.Updates
 	for _, site := range status.Sites {
 		hasEnded = hasEnded && !site.JoinWaits
@@ -189,9 +189,9 @@ func (audit *Audit) HasEnded() bool {
 }
 
 // End checks the last epoch up to its last entry.
-func (audit *Audit) End() error {
-	if audit.store == nil || audit.core.Epoch() == 0 {
+func (a *Audit) End() error {
+	if a.store == nil || a.core.Epoch() == 0 {
 		return nil
 	}
-	return audit.endEpoch(false)
+	return a.endEpoch(false)
 }

@@ -27,7 +27,7 @@ func OfPrimary(version string, connections func() int, status func() primary.Sta
 }
 
 // Waited takes how long an update waited for its answer.
-func (numbers *PrimaryNumbers) Waited(wait time.Duration) { numbers.waits.Observe(wait.Seconds()) }
+func (p *PrimaryNumbers) Waited(wait time.Duration) { p.waits.Observe(wait.Seconds()) }
 
 func ofPrimary(status *primary.Status) []sample {
 	core := &status.Core

@@ -16,13 +16,13 @@ import (
 )
 
 // siteBy starts a site over a link of its own.
-func (deployment *deployment) siteBy(name string, engine *engine.Engine) (*site.Site, *process) {
+func (d *deployment) siteBy(name string, engine *engine.Engine) (*site.Site, *process) {
 	made, err := site.New(site.Config{Engine: engine, Open: openStore, Name: name, Host: "h-" + name, Versions: []string{"1"},
-		Teller: deployment, Log: deployment.log})
+		Teller: d, Log: d.log})
 	if err != nil {
-		deployment.t.Fatal(err)
+		d.t.Fatal(err)
 	}
-	return made, deployment.run(made.Run)
+	return made, d.run(made.Run)
 }
 
 func serves(at *site.Site) bool {

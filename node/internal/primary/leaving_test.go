@@ -17,8 +17,8 @@ import (
 var withoutNorth = []string{"object tea 1", "site south 1", "start"}
 
 // said is whether a line of the log has all these words.
-func (deployment *deployment) said(words ...string) bool {
-	for _, line := range strings.Split(deployment.lines.all(), "\n") {
+func (d *deployment) said(words ...string) bool {
+	for _, line := range strings.Split(d.lines.all(), "\n") {
 		count := 0
 		for _, word := range words {
 			if strings.Contains(line, word) {

@@ -99,9 +99,9 @@ type counters struct {
 	full                              atomic.Bool
 }
 
-func (counters *counters) now() Counts {
-	return Counts{Requests: counters.requests.Load(), Answers: counters.answers.Load(), Entries: counters.entries.Load(),
-		Bytes: counters.bytes.Load(), Full: counters.full.Load()}
+func (c *counters) now() Counts {
+	return Counts{Requests: c.requests.Load(), Answers: c.answers.Load(), Entries: c.entries.Load(),
+		Bytes: c.bytes.Load(), Full: c.full.Load()}
 }
 
 // New gives a primary, which Run runs.
@@ -123,24 +123,24 @@ func New(config Config) (*Primary, error) {
 }
 
 // Run stands by and writes, until the context ends or an error ends the process. Then the lease is given back.
-func (primary *Primary) Run(ctx context.Context) error {
+func (p *Primary) Run(ctx context.Context) error {
 	// It goes on until all is written, so that the lease is given back last.
 	beside, cancel := context.WithCancel(context.Background())
 	var others sync.WaitGroup
 	defer others.Wait()
 	defer cancel()
-	for _, run := range []func(context.Context){primary.lease.Run, primary.keeper.Run} {
+	for _, run := range []func(context.Context){p.lease.Run, p.keeper.Run} {
 		others.Add(1)
 		go func(run func(context.Context)) { defer others.Done(); run(beside) }(run)
 	}
-	defer primary.forget()
-	defer primary.calls.end()
+	defer p.forget()
+	defer p.calls.end()
 	for ctx.Err() == nil {
-		err := primary.standBy(ctx)
+		err := p.standBy(ctx)
 		if err == nil {
-			err = primary.writeAll(ctx)
+			err = p.writeAll(ctx)
 		}
-		if err = primary.heed(ctx, err); err != nil {
+		if err = p.heed(ctx, err); err != nil {
 			return err
 		}
 	}
@@ -148,43 +148,43 @@ func (primary *Primary) Run(ctx context.Context) error {
 }
 
 // heed is whether an error ends the process. After most it goes on, some with a core that runs the script anew.
-func (primary *Primary) heed(ctx context.Context, err error) error {
+func (p *Primary) heed(ctx context.Context, err error) error {
 	var taken *engine.TakenError
 	var served *engine.ServedError
 	switch {
 	case err == nil || ctx.Err() != nil:
 		return nil
 	case errors.As(err, &taken) || errors.As(err, &served):
-		primary.config.Log.Info("runs-again", "why", err)
-		primary.forget()
+		p.config.Log.Info("runs-again", "why", err)
+		p.forget()
 		return nil
 	}
-	return primary.follower.Heed(ctx, err, primary.forget)
+	return p.follower.Heed(ctx, err, p.forget)
 }
 
 // forget drops what was run.
-func (primary *Primary) forget() {
-	primary.coreLock.Lock()
-	defer primary.coreLock.Unlock()
-	if primary.core != nil {
-		primary.core.Close()
-		primary.core = nil
+func (p *Primary) forget() {
+	p.coreLock.Lock()
+	defer p.coreLock.Unlock()
+	if p.core != nil {
+		p.core.Close()
+		p.core = nil
 	}
-	primary.follower.Mark, primary.digests = engine.Mark{}, digests{}
+	p.follower.Mark, p.digests = engine.Mark{}, digests{}
 }
 
 // with has the core worked on, by one goroutine at a time.
-func (primary *Primary) with(do func(*epoch.Core) error) error {
-	primary.coreLock.Lock()
-	defer primary.coreLock.Unlock()
-	return do(primary.core)
+func (p *Primary) with(do func(*epoch.Core) error) error {
+	p.coreLock.Lock()
+	defer p.coreLock.Unlock()
+	return do(p.core)
 }
 
 // see has the core looked at, or told something that cannot fail.
-func (primary *Primary) see(do func(*epoch.Core)) {
-	primary.coreLock.Lock()
-	defer primary.coreLock.Unlock()
-	do(primary.core)
+func (p *Primary) see(do func(*epoch.Core)) {
+	p.coreLock.Lock()
+	defer p.coreLock.Unlock()
+	do(p.core)
 }
 
 // A Status is what an operator may see of a primary.
@@ -212,24 +212,24 @@ type Status struct {
 }
 
 // Status tells what there is.
-func (primary *Primary) Status() Status {
-	status := Status{Writes: primary.calls.isOpen(), Writer: primary.calls.writer(), EngineFailures: primary.config.Engine.Failures(),
-		Counts: primary.counts.now()}
-	if left := primary.lease.Until() - clock.Now(); left > 0 {
+func (p *Primary) Status() Status {
+	status := Status{Writes: p.calls.isOpen(), Writer: p.calls.writer(), EngineFailures: p.config.Engine.Failures(),
+		Counts: p.counts.now()}
+	if left := p.lease.Until() - clock.Now(); left > 0 {
 		status.Lease = left
 	}
-	status.Waiting, status.Queued = primary.calls.sizes()
-	status.Archives = primary.keeper.Waiting()
-	primary.see(func(core *epoch.Core) {
+	status.Waiting, status.Queued = p.calls.sizes()
+	status.Archives = p.keeper.Waiting()
+	p.see(func(core *epoch.Core) {
 		if core != nil {
 			status.Core = core.Status(clock.Now())
 		}
-		if primary.markAt > 0 {
-			status.Since, status.HasSeen = clock.Now()-primary.markAt, true
+		if p.markAt > 0 {
+			status.Since, status.HasSeen = clock.Now()-p.markAt, true
 		}
-		status.Rounds, status.Held = primary.rounds.over(&status.Core), map[string]Held{}
+		status.Rounds, status.Held = p.rounds.over(&status.Core), map[string]Held{}
 		for _, site := range status.Core.Sites {
-			if held, isHeld := primary.held[site.Name]; isHeld && status.Writes && site.Leaves && !site.Gone {
+			if held, isHeld := p.held[site.Name]; isHeld && status.Writes && site.Leaves && !site.Gone {
 				status.Held[site.Name] = held
 			}
 		}

@@ -45,16 +45,16 @@ type lines struct {
 	text bytes.Buffer
 }
 
-func (lines *lines) Write(text []byte) (int, error) {
-	lines.lock.Lock()
-	defer lines.lock.Unlock()
-	return lines.text.Write(text)
+func (l *lines) Write(text []byte) (int, error) {
+	l.lock.Lock()
+	defer l.lock.Unlock()
+	return l.text.Write(text)
 }
 
-func (lines *lines) all() string {
-	lines.lock.Lock()
-	defer lines.lock.Unlock()
-	return lines.text.String()
+func (l *lines) all() string {
+	l.lock.Lock()
+	defer l.lock.Unlock()
+	return l.text.String()
 }
 
 func deploy(t *testing.T, members int, options ...string) *deployment {
@@ -75,61 +75,61 @@ type process struct {
 }
 
 // end ends the process as a signal does, and returns its error.
-func (process *process) end() error {
-	process.stop()
-	return <-process.done
+func (p *process) end() error {
+	p.stop()
+	return <-p.done
 }
 
-func (deployment *deployment) run(run func(context.Context) error) *process {
+func (d *deployment) run(run func(context.Context) error) *process {
 	ctx, cancel := context.WithCancel(context.Background())
 	process := &process{cancel, make(chan error, 1)}
 	go func() {
 		err := run(ctx)
 		if err != nil {
-			deployment.log.Error("ends", "status", exit.Of(err), "why", err)
+			d.log.Error("ends", "status", exit.Of(err), "why", err)
 		}
 		process.done <- err
 	}()
-	deployment.t.Cleanup(cancel)
+	d.t.Cleanup(cancel)
 	return process
 }
 
-func (deployment *deployment) config(host string) primary.Config {
-	return primary.Config{Engine: deployment.members.Engine(), Open: openStore, Host: host, Address: "http://" + host, Versions: []string{"1"},
-		Every: 1000, Remembers: 2, Declarations: shop, Folder: filepath.Join(deployment.t.TempDir(), host), Copies: 2, Log: deployment.log}
+func (d *deployment) config(host string) primary.Config {
+	return primary.Config{Engine: d.members.Engine(), Open: openStore, Host: host, Address: "http://" + host, Versions: []string{"1"},
+		Every: 1000, Remembers: 2, Declarations: shop, Folder: filepath.Join(d.t.TempDir(), host), Copies: 2, Log: d.log}
 }
 
-func (deployment *deployment) primary(config primary.Config) (*primary.Primary, *process) {
-	deployment.t.Helper()
+func (d *deployment) primary(config primary.Config) (*primary.Primary, *process) {
+	d.t.Helper()
 	made, err := primary.New(config)
 	if err != nil {
-		deployment.t.Fatal(err)
+		d.t.Fatal(err)
 	}
-	deployment.lock.Lock()
-	deployment.primaries = append(deployment.primaries, made)
-	deployment.lock.Unlock()
-	return made, deployment.run(made.Run)
+	d.lock.Lock()
+	d.primaries = append(d.primaries, made)
+	d.lock.Unlock()
+	return made, d.run(made.Run)
 }
 
-func (deployment *deployment) site(name, fleet string) (*site.Site, *process) {
-	deployment.t.Helper()
-	made, err := site.New(site.Config{Engine: deployment.members.Engine(), Open: openStore, Name: name, Fleet: fleet, Host: "h-" + name,
-		Versions: []string{"1"}, Teller: deployment, Log: deployment.log})
+func (d *deployment) site(name, fleet string) (*site.Site, *process) {
+	d.t.Helper()
+	made, err := site.New(site.Config{Engine: d.members.Engine(), Open: openStore, Name: name, Fleet: fleet, Host: "h-" + name,
+		Versions: []string{"1"}, Teller: d, Log: d.log})
 	if err != nil {
-		deployment.t.Fatal(err)
+		d.t.Fatal(err)
 	}
-	return made, deployment.run(made.Run)
+	return made, d.run(made.Run)
 }
 
 // Tell takes a place to the primary that writes.
-func (deployment *deployment) Tell(ctx context.Context, place epoch.Place) error {
-	return deployment.toWriter(func(primary *primary.Primary) error { return primary.Tell(ctx, place) })
+func (d *deployment) Tell(ctx context.Context, place epoch.Place) error {
+	return d.toWriter(func(primary *primary.Primary) error { return primary.Tell(ctx, place) })
 }
 
-func (deployment *deployment) toWriter(ask func(*primary.Primary) error) error {
-	deployment.lock.Lock()
-	primaries := append([]*primary.Primary{}, deployment.primaries...)
-	deployment.lock.Unlock()
+func (d *deployment) toWriter(ask func(*primary.Primary) error) error {
+	d.lock.Lock()
+	primaries := append([]*primary.Primary{}, d.primaries...)
+	d.lock.Unlock()
 	err := error(&primary.NotWriterError{})
 	for _, each := range primaries {
 		var other *primary.NotWriterError
@@ -141,13 +141,13 @@ func (deployment *deployment) toWriter(ask func(*primary.Primary) error) error {
 }
 
 // ask asks until there is an answer.
-func (deployment *deployment) ask(client string, number int64, changes string) string {
-	deployment.t.Helper()
+func (d *deployment) ask(client string, number int64, changes string) string {
+	d.t.Helper()
 	ctx, cancel := context.WithTimeout(context.Background(), 30*time.Second)
 	defer cancel()
 	for ctx.Err() == nil {
 		var answer script.Answer
-		err := deployment.toWriter(func(primary *primary.Primary) (err error) {
+		err := d.toWriter(func(primary *primary.Primary) (err error) {
 			answer, err = primary.Submit(ctx, epoch.Request{Client: client, Number: number, Changes: changes})
 			return err
 		})
@@ -160,14 +160,14 @@ func (deployment *deployment) ask(client string, number int64, changes string) s
 		}
 		time.Sleep(10 * time.Millisecond)
 	}
-	deployment.t.Fatal("there is no answer")
+	d.t.Fatal("there is no answer")
 	return ""
 }
 
-func (deployment *deployment) next(wish epoch.Wish) (begun int64, err error) {
+func (d *deployment) next(wish epoch.Wish) (begun int64, err error) {
 	ctx, cancel := context.WithTimeout(context.Background(), 30*time.Second)
 	defer cancel()
-	err = deployment.toWriter(func(primary *primary.Primary) (err error) {
+	err = d.toWriter(func(primary *primary.Primary) (err error) {
 		begun, err = primary.Next(ctx, wish)
 		return err
 	})
@@ -175,7 +175,7 @@ func (deployment *deployment) next(wish epoch.Wish) (begun int64, err error) {
 }
 
 // read is what a reader is told who has seen this.
-func (deployment *deployment) read(at *site.Site, seen site.Seen) string {
+func (d *deployment) read(at *site.Site, seen site.Seen) string {
 	ctx, cancel := context.WithTimeout(context.Background(), 20*time.Second)
 	defer cancel()
 	for ctx.Err() == nil {

@@ -107,8 +107,8 @@ func TestStart(t *testing.T) {
 }
 
 // writeUpdates writes a script of so many updates by 1,000 clients, 200 in an entry, which four sites have told.
-func (deployment *deployment) writeUpdates(updates int) (bytes int) {
-	t, to := deployment.t, deployment.members.Engine()
+func (d *deployment) writeUpdates(updates int) (bytes int) {
+	t, to := d.t, d.members.Engine()
 	config := epoch.Config{Open: openStore, Writer: "p1", Versions: []string{"1"}}
 	turn, err := epoch.FirstTurn(config, script.Settings{Every: epoch.MostEvery, Remembers: 2, Origin: "0", Ordup: "1"}, startDeclarations)
 	is(t, nil, err)

@@ -43,11 +43,11 @@ var kindNames = [...]string{
 }
 
 // String is the first word of the line of a step of this kind.
-func (kind Kind) String() string {
-	if int(kind) < len(kindNames) {
-		return kindNames[kind]
+func (k Kind) String() string {
+	if int(k) < len(kindNames) {
+		return kindNames[k]
 	}
-	return "kind " + strconv.Itoa(int(kind))
+	return "kind " + strconv.Itoa(int(k))
 }
 
 // Settings are what all primaries agree on, since the script has them. They are those of an epoch.
@@ -132,12 +132,12 @@ func (s *Step) Append(to []byte) []byte {
 }
 
 // append appends the settings as words. Those in seconds are there where one is not 0.
-func (settings *Settings) append(to []byte) []byte {
-	began := &settings.Began
-	to = append(to, fmt.Sprintf(" %d %d %s %s %d %d %s", settings.Every, settings.Remembers, settings.Origin, settings.Ordup,
+func (s *Settings) append(to []byte) []byte {
+	began := &s.Began
+	to = append(to, fmt.Sprintf(" %d %d %s %s %d %d %s", s.Every, s.Remembers, s.Origin, s.Ordup,
 		began.Every, began.Remembers, began.Origin)...)
-	if settings.Seconds != 0 || began.Seconds != 0 {
-		to = append(to, fmt.Sprintf(" %d %d", settings.Seconds, began.Seconds)...)
+	if s.Seconds != 0 || began.Seconds != 0 {
+		to = append(to, fmt.Sprintf(" %d %d", s.Seconds, began.Seconds)...)
 	}
 	return to
 }

@@ -24,7 +24,7 @@ func NewFleet(config Config, teller site.Teller) *Fleet {
 	return served
 }
 
-func (served *Fleet) place(ctx context.Context, asked *request) (any, error) {
+func (f *Fleet) place(ctx context.Context, asked *request) (any, error) {
 	place, err := placeOf(asked)
 	if err != nil {
 		return nil, err
@@ -32,7 +32,7 @@ func (served *Fleet) place(ctx context.Context, asked *request) (any, error) {
 	if asked.site != "" && asked.site != place.Member {
 		return nil, otherSite(asked.site)
 	}
-	return wire.Done{}, inFleet(served.teller.Tell(ctx, place))
+	return wire.Done{}, inFleet(f.teller.Tell(ctx, place))
 }
 
 // inFleet is what a site is told of an error of the fleet. It hears of no primary that writes, since it would tell that one its own place as

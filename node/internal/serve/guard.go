@@ -57,31 +57,31 @@ type known struct {
 
 // Load has a role show one of the tokens of a file, which is read again when it changes. So a token is replaced by a file that has both for
 // a while.
-func (guard *Guard) Load(role Role, file string) error {
-	if guard.tokens == nil {
-		guard.tokens, guard.isOpen = map[Role]*reload.Value[[]known]{}, map[Role]bool{}
+func (g *Guard) Load(role Role, file string) error {
+	if g.tokens == nil {
+		g.tokens, g.isOpen = map[Role]*reload.Value[[]known]{}, map[Role]bool{}
 	}
 	if file == Open {
-		guard.isOpen[role] = true
+		g.isOpen[role] = true
 		return nil
 	}
-	tokens, err := reload.New(guard.Log, func() ([]known, error) { return knownOf(role, file) }, file)
+	tokens, err := reload.New(g.Log, func() ([]known, error) { return knownOf(role, file) }, file)
 	if err != nil {
 		return err
 	}
-	guard.tokens[role] = tokens
+	g.tokens[role] = tokens
 	if info, err := os.Stat(file); err == nil && info.Mode().Perm()&0o007 != 0 {
-		guard.Log.Warn("tokens-are-for-everybody", "file", file, "mode", info.Mode().Perm())
+		g.Log.Warn("tokens-are-for-everybody", "file", file, "mode", info.Mode().Perm())
 	}
 	return nil
 }
 
 // Asks says whether a role is open, asks for tokens, or is closed, so that nobody has it.
-func (guard *Guard) Asks(role Role) string {
+func (g *Guard) Asks(role Role) string {
 	switch {
-	case guard == nil || len(guard.tokens) == 0 || guard.isOpen[role]:
+	case g == nil || len(g.tokens) == 0 || g.isOpen[role]:
 		return Open
-	case guard.tokens[role] == nil:
+	case g.tokens[role] == nil:
 		return closed
 	}
 	return byToken
@@ -130,9 +130,9 @@ func TokensOf(file string) ([]Token, error) {
 }
 
 // admit is why a request is not taken, or nil. Site is the one for whose places alone its token is, if it names one.
-func (guard *Guard) admit(role Role, asked *http.Request) (site string, err error) {
+func (g *Guard) admit(role Role, asked *http.Request) (site string, err error) {
 	if role != Anybody {
-		site, err = guard.find(role, asked)
+		site, err = g.find(role, asked)
 		if err != nil {
 			return "", err
 		}
@@ -142,8 +142,8 @@ func (guard *Guard) admit(role Role, asked *http.Request) (site string, err erro
 
 // find gives the site of the token that a request shows, if it is one of a role. The digests are compared, all of them and each in the same
 // time, so that the time tells nothing of the tokens. A password is kept by browsers, and sent for any page: so it is for what is read.
-func (guard *Guard) find(role Role, asked *http.Request) (site string, err error) {
-	switch guard.Asks(role) {
+func (g *Guard) find(role Role, asked *http.Request) (site string, err error) {
+	switch g.Asks(role) {
 	case Open:
 		return "", nil
 	case closed:
@@ -155,7 +155,7 @@ func (guard *Guard) find(role Role, asked *http.Request) (site string, err error
 	} else if !strings.EqualFold(kind, "bearer") {
 		return "", errNoToken
 	}
-	sum, found, tokens := sha256.Sum256([]byte(given)), -1, guard.tokens[role].Now()
+	sum, found, tokens := sha256.Sum256([]byte(given)), -1, g.tokens[role].Now()
 	for at, token := range tokens {
 		found = subtle.ConstantTimeSelect(subtle.ConstantTimeCompare(sum[:], token.digest[:]), at, found)
 	}

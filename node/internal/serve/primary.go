@@ -45,7 +45,7 @@ func NewPrimary(config Config, writer Writer, pass *Passer, waited func(time.Dur
 	return served
 }
 
-func (served *Primary) update(ctx context.Context, asked *request) (any, error) {
+func (p *Primary) update(ctx context.Context, asked *request) (any, error) {
 	var update wire.Update
 	if err := asked.read(&update); err != nil {
 		return nil, err
@@ -57,16 +57,16 @@ func (served *Primary) update(ctx context.Context, asked *request) (any, error) 
 	}
 	request := epoch.Request{Client: update.Client, Number: update.Number, Changes: strings.Join(update.Changes, " ")}
 	began := time.Now()
-	answer, err := served.writer.Submit(ctx, request)
+	answer, err := p.writer.Submit(ctx, request)
 	if err != nil {
 		var acked wire.Acked
-		return served.orPassed(ctx, asked, err, &acked)
+		return p.orPassed(ctx, asked, err, &acked)
 	}
-	served.waited(time.Since(began))
+	p.waited(time.Since(began))
 	return ackedOf(request, answer)
 }
 
-func (served *Primary) place(ctx context.Context, asked *request) (any, error) {
+func (p *Primary) place(ctx context.Context, asked *request) (any, error) {
 	place, err := placeOf(asked)
 	if err != nil {
 		return nil, err
@@ -77,8 +77,8 @@ func (served *Primary) place(ctx context.Context, asked *request) (any, error) {
 	if place.Member != place.Site {
 		return nil, fmt.Errorf("%w: a site of a fleet tells the process of the fleet", epoch.ErrNoSite)
 	}
-	if err = served.writer.Tell(ctx, place); err != nil {
-		return served.orPassed(ctx, asked, err, &wire.Done{})
+	if err = p.writer.Tell(ctx, place); err != nil {
+		return p.orPassed(ctx, asked, err, &wire.Done{})
 	}
 	return wire.Done{}, nil
 }
@@ -95,7 +95,7 @@ func placeOf(asked *request) (epoch.Place, error) {
 	return epoch.Place(place), nil
 }
 
-func (served *Primary) next(ctx context.Context, asked *request) (any, error) {
+func (p *Primary) next(ctx context.Context, asked *request) (any, error) {
 	var next wire.Next
 	if err := asked.read(&next); err != nil {
 		return nil, err
@@ -105,9 +105,9 @@ func (served *Primary) next(ctx context.Context, asked *request) (any, error) {
 	}
 	wish := epoch.Wish{From: next.From, Declarations: epoch.Declarations(next.Declarations), Replaces: next.Replaces,
 		Settings: script.Settings{Every: next.Every, Remembers: next.Remembers, Seconds: next.RemembersSeconds, Ordup: next.Ordup}}
-	begun, err := served.writer.Next(ctx, wish)
+	begun, err := p.writer.Next(ctx, wish)
 	if err != nil {
-		value, err := served.orPassed(ctx, asked, err, &wire.Begun{})
+		value, err := p.orPassed(ctx, asked, err, &wire.Begun{})
 		if err != nil {
 			err = ErrorOf(err, wire.NoWish)
 		}
@@ -116,11 +116,11 @@ func (served *Primary) next(ctx context.Context, asked *request) (any, error) {
 	return wire.Begun{Epoch: begun}, nil
 }
 
-func (served *Primary) epoch(ctx context.Context, asked *request) (any, error) {
-	status := served.writer.Status()
+func (p *Primary) epoch(ctx context.Context, asked *request) (any, error) {
+	status := p.writer.Status()
 	switch {
 	case !status.Writes:
-		return served.orPassed(ctx, asked, &primary.NotWriterError{Address: status.Writer}, &wire.Begun{})
+		return p.orPassed(ctx, asked, &primary.NotWriterError{Address: status.Writer}, &wire.Begun{})
 	case status.Lease == 0:
 		return nil, &primary.NotWriterError{}
 	}
@@ -128,16 +128,16 @@ func (served *Primary) epoch(ctx context.Context, asked *request) (any, error) {
 }
 
 // orPassed passes a request on to the primary that writes, where this one does not. Else, and where that cannot be, it gives the error.
-func (served *Primary) orPassed(ctx context.Context, asked *request, err error, to any) (any, error) {
+func (p *Primary) orPassed(ctx context.Context, asked *request, err error, to any) (any, error) {
 	var other *primary.NotWriterError
 	if !errors.As(err, &other) || other.Address == "" {
 		return nil, err
 	}
 	asked.header.Set(wire.WriterHeader, other.Address)
-	if served.pass == nil || asked.Header.Get(wire.PassedHeader) != "" {
+	if p.pass == nil || asked.Header.Get(wire.PassedHeader) != "" {
 		return nil, err
 	}
-	if failure := served.pass.on(ctx, asked, other.Address, to); failure != nil {
+	if failure := p.pass.on(ctx, asked, other.Address, to); failure != nil {
 		var told *wire.Error
 		if errors.As(failure, &told) {
 			return nil, told

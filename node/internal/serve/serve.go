@@ -80,15 +80,15 @@ type room struct {
 	count atomic.Int64
 }
 
-func (room *room) enter() bool {
-	if room.count.Add(1) <= room.most {
+func (r *room) enter() bool {
+	if r.count.Add(1) <= r.most {
 		return true
 	}
-	room.leave()
+	r.leave()
 	return false
 }
 
-func (room *room) leave() { room.count.Add(-1) }
+func (r *room) leave() { r.count.Add(-1) }
 
 func newServer(config Config) *server {
 	server := &server{Config: config, paths: http.NewServeMux()}
@@ -102,21 +102,21 @@ func newServer(config Config) *server {
 }
 
 // ServeHTTP answers a request.
-func (server *server) ServeHTTP(to http.ResponseWriter, asked *http.Request) {
+func (s *server) ServeHTTP(to http.ResponseWriter, asked *http.Request) {
 	to.Header().Set("X-Content-Type-Options", "nosniff")
-	server.paths.ServeHTTP(to, asked)
+	s.paths.ServeHTTP(to, asked)
 }
 
 // End has whoever balances requests send no more of them here, while those that are under way are answered.
-func (server *server) End() { server.ends.Store(true) }
+func (s *server) End() { s.ends.Store(true) }
 
 // Look asks whether the process is ready.
-func (server *server) Look() { server.Ready() }
+func (s *server) Look() { s.Ready() }
 
-func (server *server) ready(to http.ResponseWriter, _ *http.Request) {
+func (s *server) ready(to http.ResponseWriter, _ *http.Request) {
 	err := errEnds
-	if !server.ends.Load() {
-		err = server.Ready()
+	if !s.ends.Load() {
+		err = s.Ready()
 	}
 	if err != nil {
 		http.Error(to, err.Error(), http.StatusServiceUnavailable)
@@ -139,14 +139,14 @@ func exactly(path string, handler http.Handler) http.Handler {
 }
 
 // plain answers by a handler that writes the answer itself.
-func (server *server) plain(path string, role Role, room *room, handler http.Handler) {
-	server.paths.HandleFunc(path, func(to http.ResponseWriter, asked *http.Request) {
+func (s *server) plain(path string, role Role, room *room, handler http.Handler) {
+	s.paths.HandleFunc(path, func(to http.ResponseWriter, asked *http.Request) {
 		listen.Hurry(asked)
 		defer listen.Begin(asked)()
 		if !isLook(asked) {
 			to.Header().Set("Allow", http.MethodGet)
 			fail(to, asked, errMethod)
-		} else if _, err := server.Guard.admit(role, asked); err != nil {
+		} else if _, err := s.Guard.admit(role, asked); err != nil {
 			fail(to, asked, err)
 		} else if !room.enter() {
 			fail(to, asked, errBusy)
@@ -160,9 +160,9 @@ func (server *server) plain(path string, role Role, room *room, handler http.Han
 var errBusy = wire.NewError(wire.Busy, "too many requests are under way")
 
 // answers answers a path by a route.
-func (server *server) answers(path string, route route) {
-	server.paths.HandleFunc(path, func(to http.ResponseWriter, asked *http.Request) {
-		value, err := server.answer(to, asked, &route)
+func (s *server) answers(path string, route route) {
+	s.paths.HandleFunc(path, func(to http.ResponseWriter, asked *http.Request) {
+		value, err := s.answer(to, asked, &route)
 		if err != nil {
 			fail(to, asked, err)
 			return
@@ -171,11 +171,11 @@ func (server *server) answers(path string, route route) {
 	})
 }
 
-func (server *server) answer(to http.ResponseWriter, asked *http.Request, route *route) (any, error) {
+func (s *server) answer(to http.ResponseWriter, asked *http.Request, route *route) (any, error) {
 	end := func() {}
 	defer func() { end() }()
 	listen.Hurry(asked)
-	read, wait, err := server.headOf(to, asked, route)
+	read, wait, err := s.headOf(to, asked, route)
 	if err != nil {
 		end = listen.Begin(asked)
 		return nil, err
@@ -205,13 +205,13 @@ func (server *server) answer(to http.ResponseWriter, asked *http.Request, route 
 }
 
 // headOf reads what a request has before its body, and for how long its answer is waited for.
-func (server *server) headOf(to http.ResponseWriter, asked *http.Request, route *route) (read *request, wait time.Duration, err error) {
+func (s *server) headOf(to http.ResponseWriter, asked *http.Request, route *route) (read *request, wait time.Duration, err error) {
 	if asked.Method != route.method {
 		to.Header().Set("Allow", route.method)
 		return nil, 0, errMethod
 	}
 	read = &request{Request: asked, header: to.Header()}
-	read.site, err = server.Guard.admit(route.role, asked)
+	read.site, err = s.Guard.admit(route.role, asked)
 	if err == nil {
 		read.words, err = wordsOf(asked, route.words)
 	}
@@ -237,8 +237,8 @@ func bodyOf(asked *http.Request, most int) ([]byte, error) {
 func malformed(err error) error { return wire.NewError(wire.Malformed, err.Error()) }
 
 // read reads the JSON of a body.
-func (request *request) read(to any) error {
-	if err := wire.Read(bytes.NewReader(request.body), to); err != nil {
+func (r *request) read(to any) error {
+	if err := wire.Read(bytes.NewReader(r.body), to); err != nil {
 		return malformed(err)
 	}
 	return nil

@@ -36,43 +36,43 @@ type writer struct {
 	status primary.Status
 }
 
-func (writer *writer) Submit(ctx context.Context, request epoch.Request) (script.Answer, error) {
-	writer.lock.Lock()
-	defer writer.lock.Unlock()
-	writer.asked = append(writer.asked, request)
-	if writer.answer == (script.Answer{}) && writer.err == nil {
-		writer.lock.Unlock()
+func (w *writer) Submit(ctx context.Context, request epoch.Request) (script.Answer, error) {
+	w.lock.Lock()
+	defer w.lock.Unlock()
+	w.asked = append(w.asked, request)
+	if w.answer == (script.Answer{}) && w.err == nil {
+		w.lock.Unlock()
 		<-ctx.Done()
-		writer.lock.Lock()
+		w.lock.Lock()
 		return script.Answer{}, fmt.Errorf("the update waits for north: %w", ctx.Err())
 	}
-	return writer.answer, writer.err
+	return w.answer, w.err
 }
 
-func (writer *writer) Tell(_ context.Context, place epoch.Place) error {
-	writer.lock.Lock()
-	defer writer.lock.Unlock()
-	writer.places = append(writer.places, place)
-	return writer.err
+func (w *writer) Tell(_ context.Context, place epoch.Place) error {
+	w.lock.Lock()
+	defer w.lock.Unlock()
+	w.places = append(w.places, place)
+	return w.err
 }
 
-func (writer *writer) Next(_ context.Context, wish epoch.Wish) (int64, error) {
-	writer.lock.Lock()
-	defer writer.lock.Unlock()
-	writer.wishes = append(writer.wishes, wish)
-	return wish.From + 1, writer.err
+func (w *writer) Next(_ context.Context, wish epoch.Wish) (int64, error) {
+	w.lock.Lock()
+	defer w.lock.Unlock()
+	w.wishes = append(w.wishes, wish)
+	return wish.From + 1, w.err
 }
 
-func (writer *writer) Status() primary.Status {
-	writer.lock.Lock()
-	defer writer.lock.Unlock()
-	return writer.status
+func (w *writer) Status() primary.Status {
+	w.lock.Lock()
+	defer w.lock.Unlock()
+	return w.status
 }
 
-func (writer *writer) set(answer script.Answer, err error) {
-	writer.lock.Lock()
-	defer writer.lock.Unlock()
-	writer.answer, writer.err = answer, err
+func (w *writer) set(answer script.Answer, err error) {
+	w.lock.Lock()
+	defer w.lock.Unlock()
+	w.answer, w.err = answer, err
 }
 
 // A handler may be given once the address is known.
@@ -346,15 +346,15 @@ func TestASiteOfAFleetStaysAtTheFleet(t *testing.T) {
 // A reader stands in for a site.
 type reader struct{ place int64 }
 
-func (reader *reader) Read(ctx context.Context, seen site.Seen) (site.Reading, error) {
-	if reader.place < 0 {
+func (r *reader) Read(ctx context.Context, seen site.Seen) (site.Reading, error) {
+	if r.place < 0 {
 		return site.Reading{}, site.ErrNotServing
 	}
-	if seen.Epoch > 1 || seen.Epoch == 1 && seen.Place > reader.place {
+	if seen.Epoch > 1 || seen.Epoch == 1 && seen.Place > r.place {
 		<-ctx.Done()
-		return site.Reading{}, &site.BehindError{Has: site.Seen{Epoch: 1, Place: reader.place}}
+		return site.Reading{}, &site.BehindError{Has: site.Seen{Epoch: 1, Place: r.place}}
 	}
-	return site.Reading{Shown: &site.Shown{Entry: 9, Epoch: 1, Place: reader.place, Values: map[string]int64{"tea": 995}, Limits: []string{"count 3"}},
+	return site.Reading{Shown: &site.Shown{Entry: 9, Epoch: 1, Place: r.place, Values: map[string]int64{"tea": 995}, Limits: []string{"count 3"}},
 		Lease: 2 * time.Second}, nil
 }
 

@@ -33,8 +33,8 @@ func NewSite(config Config, name string, reader Reader) *Site {
 	return served
 }
 
-func (served *Site) value(ctx context.Context, asked *request) (any, error) {
-	reading, showing, err := served.read(ctx, asked)
+func (s *Site) value(ctx context.Context, asked *request) (any, error) {
+	reading, showing, err := s.read(ctx, asked)
 	if err != nil {
 		return nil, err
 	}
@@ -46,15 +46,15 @@ func (served *Site) value(ctx context.Context, asked *request) (any, error) {
 	return wire.Value{Object: name, Value: value, Showing: showing}, nil
 }
 
-func (served *Site) values(ctx context.Context, asked *request) (any, error) {
-	reading, showing, err := served.read(ctx, asked)
+func (s *Site) values(ctx context.Context, asked *request) (any, error) {
+	reading, showing, err := s.read(ctx, asked)
 	if err != nil {
 		return nil, err
 	}
 	return wire.Values{Values: reading.Values, Showing: showing}, nil
 }
 
-func (served *Site) read(ctx context.Context, asked *request) (reading site.Reading, showing wire.Showing, err error) {
+func (s *Site) read(ctx context.Context, asked *request) (reading site.Reading, showing wire.Showing, err error) {
 	seen := site.Seen{}
 	if text := asked.words.Get("seen"); text != "" {
 		seen.Epoch, seen.Place, err = wire.ParseSeen(text)
@@ -62,23 +62,23 @@ func (served *Site) read(ctx context.Context, asked *request) (reading site.Read
 			return reading, showing, malformed(err)
 		}
 	}
-	reading, err = served.readOrWait(ctx, seen)
+	reading, err = s.readOrWait(ctx, seen)
 	if err != nil {
 		return reading, showing, err
 	}
-	return reading, wire.Showing{Site: served.name, Epoch: reading.Epoch, Place: reading.Place, Seen: wire.SeenText(reading.Epoch, reading.Place),
+	return reading, wire.Showing{Site: s.name, Epoch: reading.Epoch, Place: reading.Place, Seen: wire.SeenText(reading.Epoch, reading.Place),
 		Lease: reading.Lease.Seconds(), Limits: reading.Limits}, nil
 }
 
 // readOrWait waits where the site is behind what was seen, and too many do not wait yet.
-func (served *Site) readOrWait(ctx context.Context, seen site.Seen) (site.Reading, error) {
+func (s *Site) readOrWait(ctx context.Context, seen site.Seen) (site.Reading, error) {
 	now, cancel := context.WithCancel(ctx)
 	cancel()
-	reading, err := served.reader.Read(now, seen)
+	reading, err := s.reader.Read(now, seen)
 	var behind *site.BehindError
-	if !errors.As(err, &behind) || !served.waiting.enter() {
+	if !errors.As(err, &behind) || !s.waiting.enter() {
 		return reading, err
 	}
-	defer served.waiting.leave()
-	return served.reader.Read(ctx, seen)
+	defer s.waiting.leave()
+	return s.reader.Read(ctx, seen)
 }

@@ -42,8 +42,8 @@ type LeftError struct {
 	Epoch int64
 }
 
-func (err *LeftError) Error() string {
-	return fmt.Sprintf("the script has no site %s in epoch %d", err.Site, err.Epoch)
+func (e *LeftError) Error() string {
+	return fmt.Sprintf("the script has no site %s in epoch %d", e.Site, e.Epoch)
 }
 
 // ExitStatus is that of a process which meets it.
@@ -73,57 +73,57 @@ func NewReplica(open store.Open, versions []string, name string, first int64) *R
 }
 
 // Close gives the store back.
-func (replica *Replica) Close() {
-	if replica.store != nil {
-		replica.store.Close()
-		replica.store = nil
+func (r *Replica) Close() {
+	if r.store != nil {
+		r.store.Close()
+		r.store = nil
 	}
 }
 
 // Next is the number of the entry that comes next.
-func (replica *Replica) Next() int64 { return replica.entry + 1 }
+func (r *Replica) Next() int64 { return r.entry + 1 }
 
 // Epoch is the epoch, or 0 before the first one.
-func (replica *Replica) Epoch() int64 { return replica.epoch }
+func (r *Replica) Epoch() int64 { return r.epoch }
 
 // Replay runs an entry. A LeftError says that no reader may be served any more.
-func (replica *Replica) Replay(number int64, entry *script.Entry) error {
-	if number != replica.entry+1 {
-		return &epoch.GapError{Number: replica.entry + 1, Instead: number}
+func (r *Replica) Replay(number int64, entry *script.Entry) error {
+	if number != r.entry+1 {
+		return &epoch.GapError{Number: r.entry + 1, Instead: number}
 	}
-	if !epoch.Runs(replica.versions, entry.Ordup) {
-		return &epoch.VersionError{Number: number, Version: entry.Ordup, Supported: replica.versions}
+	if !epoch.Runs(r.versions, entry.Ordup) {
+		return &epoch.VersionError{Number: number, Version: entry.Ordup, Supported: r.versions}
 	}
-	if entry.Epoch != replica.epoch && entry.Epoch != replica.epoch+1 && replica.epoch > 0 {
-		return &epoch.BrokenError{Number: number, Why: fmt.Sprintf("it is of epoch %d after %d", entry.Epoch, replica.epoch)}
+	if entry.Epoch != r.epoch && entry.Epoch != r.epoch+1 && r.epoch > 0 {
+		return &epoch.BrokenError{Number: number, Why: fmt.Sprintf("it is of epoch %d after %d", entry.Epoch, r.epoch)}
 	}
-	if err := replica.judge.Take(number, entry); err != nil {
+	if err := r.judge.Take(number, entry); err != nil {
 		return err
 	}
 	if entry.Begins() {
-		if err := replica.begin(number, entry); err != nil {
+		if err := r.begin(number, entry); err != nil {
 			return err
 		}
 	}
-	replica.entry = number
-	if err := replica.propose(entry); err != nil {
+	r.entry = number
+	if err := r.propose(entry); err != nil {
 		return err
 	}
-	return replica.heed(entry)
+	return r.heed(entry)
 }
 
 // begin begins an epoch. Its values must be those that the epoch before ended with here.
-func (replica *Replica) begin(number int64, entry *script.Entry) error {
-	before, err := replica.values()
+func (r *Replica) begin(number int64, entry *script.Entry) error {
+	before, err := r.values()
 	if err != nil {
 		return err
 	}
-	replica.Close()
-	replica.store, err = replica.open()
+	r.Close()
+	r.store, err = r.open()
 	if err != nil {
 		return err
 	}
-	replica.epoch, replica.place, replica.told, replica.sites, replica.limits = entry.Epoch, 0, 0, map[string]bool{}, []string{}
+	r.epoch, r.place, r.told, r.sites, r.limits = entry.Epoch, 0, 0, map[string]bool{}, []string{}
 	lines := []byte{}
 	for at := range entry.Steps {
 		step := &entry.Steps[at]
@@ -131,9 +131,9 @@ func (replica *Replica) begin(number int64, entry *script.Entry) error {
 		switch {
 		case step.Kind != script.Declare || len(words) < 3:
 		case words[0] == "site":
-			replica.sites[words[1]] = true
-		case words[0] == "limit" && words[1] == replica.name:
-			replica.limits = append(replica.limits, strings.Join(words[2:], " "))
+			r.sites[words[1]] = true
+		case words[0] == "limit" && words[1] == r.name:
+			r.limits = append(r.limits, strings.Join(words[2:], " "))
 		case words[0] == "object":
 			lines = step.AppendLines(lines)
 			if value, isThere := before[words[1]]; isThere && strconv.FormatInt(value, 10) != words[2] {
@@ -141,8 +141,8 @@ func (replica *Replica) begin(number int64, entry *script.Entry) error {
 			}
 		}
 	}
-	lines = append(lines, fmt.Sprintf("site %s %d\nstart\n", replica.name, feed)...)
-	return replica.run(lines, isDone)
+	lines = append(lines, fmt.Sprintf("site %s %d\nstart\n", r.name, feed)...)
+	return r.run(lines, isDone)
 }
 
 // isDone is whether an answer is no refusal.
@@ -152,52 +152,52 @@ func isDone(given answer.Answer) bool {
 }
 
 // run runs lines, each of whose answers must be as it is looked for.
-func (replica *Replica) run(lines []byte, isRight func(answer.Answer) bool) error {
-	if replica.store == nil {
-		return &epoch.BrokenError{Number: replica.entry, Why: "it comes before the beginning of its epoch"}
+func (r *Replica) run(lines []byte, isRight func(answer.Answer) bool) error {
+	if r.store == nil {
+		return &epoch.BrokenError{Number: r.entry, Why: "it comes before the beginning of its epoch"}
 	}
-	answers, err := replica.answers(lines)
+	answers, err := r.answers(lines)
 	if err != nil {
 		return err
 	}
 	for _, given := range answers {
 		if !isRight(given) {
-			return &epoch.BrokenError{Number: replica.entry, Why: fmt.Sprintf("the store of this site answers %T %+v", given, given)}
+			return &epoch.BrokenError{Number: r.entry, Why: fmt.Sprintf("the store of this site answers %T %+v", given, given)}
 		}
 	}
 	if len(answers) != bytes.Count(lines, []byte{'\n'}) {
-		return &epoch.BrokenError{Number: replica.entry, Why: fmt.Sprintf("the store of this site gives %d answers", len(answers))}
+		return &epoch.BrokenError{Number: r.entry, Why: fmt.Sprintf("the store of this site gives %d answers", len(answers))}
 	}
 	return nil
 }
 
 // answers asks the store. What is none of its answers is not of this script.
-func (replica *Replica) answers(lines []byte) ([]answer.Answer, error) {
-	answers, err := replica.store.Answers(lines)
+func (r *Replica) answers(lines []byte) ([]answer.Answer, error) {
+	answers, err := r.store.Answers(lines)
 	var unknown *answer.UnknownError
 	switch {
 	case err == nil:
 		return answers, nil
 	case errors.As(err, &unknown):
-		return nil, &epoch.BrokenError{Number: replica.entry, Why: unknown.Error()}
+		return nil, &epoch.BrokenError{Number: r.entry, Why: unknown.Error()}
 	}
-	return nil, fmt.Errorf("run the lines of the entry %d: %w", replica.entry, err)
+	return nil, fmt.Errorf("run the lines of the entry %d: %w", r.entry, err)
 }
 
 // propose runs the requests of an entry. Those that the primary refused are refused here, since the values are the same.
-func (replica *Replica) propose(entry *script.Entry) error {
-	replica.text = replica.text[:0]
+func (r *Replica) propose(entry *script.Entry) error {
+	r.text = r.text[:0]
 	for at := range entry.Steps {
 		if entry.Steps[at].Kind == script.Ask {
-			replica.text = entry.Steps[at].AppendLines(replica.text)
+			r.text = entry.Steps[at].AppendLines(r.text)
 		}
 	}
-	if len(replica.text) == 0 {
+	if len(r.text) == 0 {
 		return nil
 	}
 	refused := refusals(entry.Answers())
 	updates := int64(0)
-	err := replica.run(replica.text, func(given answer.Answer) bool {
+	err := r.run(r.text, func(given answer.Answer) bool {
 		switch given := given.(type) {
 		case answer.Proposed:
 			updates++
@@ -212,12 +212,12 @@ func (replica *Replica) propose(entry *script.Entry) error {
 		return false
 	})
 	if err == nil && len(refused) > 0 {
-		err = &epoch.BrokenError{Number: replica.entry, Why: fmt.Sprintf("the store of this site does not refuse as %s", refused[0].Name)}
+		err = &epoch.BrokenError{Number: r.entry, Why: fmt.Sprintf("the store of this site does not refuse as %s", refused[0].Name)}
 	}
 	if err != nil {
 		return err
 	}
-	return replica.apply(updates)
+	return r.apply(updates)
 }
 
 // refusals are those among the answers of an entry.
@@ -232,65 +232,65 @@ func refusals(answers []script.Step) []script.Refusal {
 }
 
 // apply applies updates, as many at once as the feed has room for.
-func (replica *Replica) apply(updates int64) error {
+func (r *Replica) apply(updates int64) error {
 	for updates > 0 {
 		some := updates
 		if some > feed {
 			some = feed
 		}
-		replica.text = replica.text[:0]
+		r.text = r.text[:0]
 		for _, kind := range []string{"send ", "apply "} {
 			for count := int64(0); count < some; count++ {
-				replica.text = append(append(append(replica.text, kind...), replica.name...), '\n')
+				r.text = append(append(append(r.text, kind...), r.name...), '\n')
 			}
 		}
-		if err := replica.run(replica.text, isDone); err != nil {
+		if err := r.run(r.text, isDone); err != nil {
 			return err
 		}
-		replica.place, updates = replica.place+some, updates-some
+		r.place, updates = r.place+some, updates-some
 	}
 	return nil
 }
 
 // heed looks whether the site is still among those of the script, and what it has told.
-func (replica *Replica) heed(entry *script.Entry) error {
+func (r *Replica) heed(entry *script.Entry) error {
 	for at := range entry.Steps {
 		step := &entry.Steps[at]
 		switch {
 		case step.Kind == script.Leave:
-			delete(replica.sites, step.Site)
-		case step.Kind == script.Tell && step.Site == replica.name:
-			replica.told += step.Count
+			delete(r.sites, step.Site)
+		case step.Kind == script.Tell && step.Site == r.name:
+			r.told += step.Count
 		}
 	}
-	if replica.epoch > 0 && !replica.sites[replica.name] {
-		return &LeftError{replica.name, replica.epoch}
+	if r.epoch > 0 && !r.sites[r.name] {
+		return &LeftError{r.name, r.epoch}
 	}
 	return nil
 }
 
 // Show gives what the site shows, or nil before the first epoch.
-func (replica *Replica) Show() (*Shown, error) {
-	values, err := replica.values()
-	if err != nil || replica.store == nil {
+func (r *Replica) Show() (*Shown, error) {
+	values, err := r.values()
+	if err != nil || r.store == nil {
 		return nil, err
 	}
-	return &Shown{Entry: replica.entry, Epoch: replica.epoch, Place: replica.place, Told: replica.told, Values: values, Limits: replica.limits}, nil
+	return &Shown{Entry: r.entry, Epoch: r.epoch, Place: r.place, Told: r.told, Values: values, Limits: r.limits}, nil
 }
 
 // values are those that the store shows.
-func (replica *Replica) values() (map[string]int64, error) {
-	if replica.store == nil {
+func (r *Replica) values() (map[string]int64, error) {
+	if r.store == nil {
 		return nil, nil
 	}
-	answers, err := replica.answers([]byte("show " + replica.name + "\n"))
+	answers, err := r.answers([]byte("show " + r.name + "\n"))
 	if err != nil {
 		return nil, err
 	}
 	if len(answers) == 1 {
-		if shown, isShown := answers[0].(answer.Shown); isShown && int64(shown.Applied) == replica.place {
+		if shown, isShown := answers[0].(answer.Shown); isShown && int64(shown.Applied) == r.place {
 			return shown.Values, nil
 		}
 	}
-	return nil, &epoch.BrokenError{Number: replica.entry, Why: fmt.Sprintf("the store of this site shows %+v", answers)}
+	return nil, &epoch.BrokenError{Number: r.entry, Why: fmt.Sprintf("the store of this site shows %+v", answers)}
 }

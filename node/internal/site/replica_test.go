@@ -43,37 +43,37 @@ func newScript(t *testing.T, declared []string) *written {
 	return &written{t, core, []*script.Entry{turn.Entry()}}
 }
 
-func (written *written) write() {
-	written.t.Helper()
+func (w *written) write() {
+	w.t.Helper()
 	for count := 0; count < 1000; count++ {
-		_, err := written.core.Work(time.Hour)
-		is(written.t, nil, err)
-		turn, err := written.core.Seal(time.Hour)
-		is(written.t, nil, err)
+		_, err := w.core.Work(time.Hour)
+		is(w.t, nil, err)
+		turn, err := w.core.Seal(time.Hour)
+		is(w.t, nil, err)
 		if turn == nil {
 			return
 		}
-		written.core.Written(turn.Number)
-		written.entries = append(written.entries, turn.Entry())
+		w.core.Written(turn.Number)
+		w.entries = append(w.entries, turn.Entry())
 	}
-	written.t.Fatal("there is always one more turn")
+	w.t.Fatal("there is always one more turn")
 }
 
-func (written *written) ask(client string, number int64, changes string) {
-	written.t.Helper()
-	verdicts, err := written.core.Ask([]epoch.Request{{Client: client, Number: number, Changes: changes}}, time.Hour)
-	is(written.t, nil, err)
-	is(written.t, epoch.Waits, verdicts[0].Kind)
+func (w *written) ask(client string, number int64, changes string) {
+	w.t.Helper()
+	verdicts, err := w.core.Ask([]epoch.Request{{Client: client, Number: number, Changes: changes}}, time.Hour)
+	is(w.t, nil, err)
+	is(w.t, epoch.Waits, verdicts[0].Kind)
 }
 
-func (written *written) tell(site string, applied int64) {
-	written.t.Helper()
-	is(written.t, nil, written.core.Tell(epoch.Place{Site: site, Epoch: written.core.Epoch(), Applied: applied}, time.Hour))
+func (w *written) tell(site string, applied int64) {
+	w.t.Helper()
+	is(w.t, nil, w.core.Tell(epoch.Place{Site: site, Epoch: w.core.Epoch(), Applied: applied}, time.Hour))
 }
 
 // replay runs the script at a site, and returns what it shows and the error.
-func (written *written) replay(replica *Replica) (*Shown, error) {
-	for at, entry := range written.entries {
+func (w *written) replay(replica *Replica) (*Shown, error) {
+	for at, entry := range w.entries {
 		if err := replica.Replay(int64(at+1), entry); err != nil {
 			return nil, err
 		}

@@ -67,17 +67,17 @@ type listener struct {
 	places []epoch.Place
 }
 
-func (listener *listener) Tell(_ context.Context, place epoch.Place) error {
-	listener.lock.Lock()
-	defer listener.lock.Unlock()
-	listener.places = append(listener.places, place)
+func (l *listener) Tell(_ context.Context, place epoch.Place) error {
+	l.lock.Lock()
+	defer l.lock.Unlock()
+	l.places = append(l.places, place)
 	return nil
 }
 
-func (listener *listener) told() []epoch.Place {
-	listener.lock.Lock()
-	defer listener.lock.Unlock()
-	return append([]epoch.Place{}, listener.places...)
+func (l *listener) told() []epoch.Place {
+	l.lock.Lock()
+	defer l.lock.Unlock()
+	return append([]epoch.Place{}, l.places...)
 }
 
 // A process that follows the script without the lease tells nothing. Another one may serve readers, and has not shown as much.

@@ -17,11 +17,15 @@ import (
 	"ordup.dev/node/internal/engine"
 	"ordup.dev/node/internal/epoch"
 	"ordup.dev/node/internal/logs"
-	"ordup.dev/node/internal/site"
 )
 
 // lookAfter is after how long it is looked again for keys of the fleet.
 const lookAfter = time.Second
+
+// A Teller takes the place of the fleet to the primary that writes.
+type Teller interface {
+	Tell(ctx context.Context, place epoch.Place) error
+}
 
 // An Engine has the keys of the processes that serve.
 type Engine interface {
@@ -31,7 +35,7 @@ type Engine interface {
 // A Fleet takes the places of its members, and tells the least one.
 type Fleet struct {
 	name   string
-	teller site.Teller
+	teller Teller
 	names  []string
 
 	// What stands below lock is under it.
@@ -71,7 +75,7 @@ func (f *Fleet) Status() Status {
 }
 
 // New gives a fleet of these members, which tells by the teller once Look found no other ones.
-func New(name string, members []string, teller site.Teller) *Fleet {
+func New(name string, members []string, teller Teller) *Fleet {
 	fleet := &Fleet{name: name, teller: teller, places: map[string]epoch.Place{}, told: map[string]time.Duration{}, names: members}
 	for _, member := range members {
 		fleet.places[member] = epoch.Place{Site: name, Member: member}

@@ -7,18 +7,22 @@ import (
 	"net/http"
 
 	"ordup.dev/node/internal/epoch"
-	"ordup.dev/node/internal/site"
 	"ordup.dev/node/internal/wire"
 )
+
+// A Teller takes the places of the sites of a fleet.
+type Teller interface {
+	Tell(ctx context.Context, place epoch.Place) error
+}
 
 // A Fleet answers for a fleet.
 type Fleet struct {
 	*server
-	teller site.Teller
+	teller Teller
 }
 
 // NewFleet gives the handler of a fleet.
-func NewFleet(config Config, teller site.Teller) *Fleet {
+func NewFleet(config Config, teller Teller) *Fleet {
 	served := &Fleet{newServer(config), teller}
 	served.answers(wire.PlacePath, route{http.MethodPost, Sites, wire.MostBody, &room{most: mostPlaces}, waits, served.place})
 	return served

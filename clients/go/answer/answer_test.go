@@ -9,6 +9,7 @@ import (
 )
 
 func TestWhatAnAnswerSays(t *testing.T) {
+	t.Parallel()
 	for _, row := range []struct {
 		text string
 		says answer.Answer
@@ -37,6 +38,7 @@ func TestWhatAnAnswerSays(t *testing.T) {
 }
 
 func TestWhatIsNoAnswer(t *testing.T) {
+	t.Parallel()
 	for _, text := range []string{"", "no", "ok", "ok start ", "ok  start", "ok proposed", "ok proposed x", "ok proposed 1 2", "ok sent south",
 		"ok show south sent 2 applied 1", "ok show south sent 2 applied 1 reported 1 rounds 3 tea", "refused 9", "refused x Syntax"} {
 		t.Run(text, func(t *testing.T) {
@@ -50,6 +52,7 @@ func TestWhatIsNoAnswer(t *testing.T) {
 
 // Each answer is that of its own line, with which a refusal is told.
 func TestTheAnswersToManyLines(t *testing.T) {
+	t.Parallel()
 	says, err := answer.ParseAll("ok start\nrefused 1 Syntax\nrefused 17 NothingToSettle\n", []byte("# a shop\nstart\n\nbad\n  \nsettle"))
 	want := []answer.Answer{answer.Started{}, &answer.Refused{Number: 1, Name: "Syntax", Line: "bad"},
 		&answer.Refused{Number: 17, Name: "NothingToSettle", Line: "settle"}}

@@ -143,10 +143,12 @@ func TestAnEpochThatCannotBeArchivedIsCounted(t *testing.T) {
 		number int
 		wants  int64
 	}{{2, 3}, {1, 1}} {
-		members.Put(fmt.Sprintf("script/%012d", row.number), "by hand")
-		if _, err := keeper.Pass(context.Background()); err == nil || keeper.Waiting() != row.wants {
-			t.Error(row, err, keeper.Waiting())
-		}
+		t.Run(fmt.Sprint("the entry ", row.number), func(t *testing.T) {
+			members.Put(fmt.Sprintf("script/%012d", row.number), "by hand")
+			if _, err := keeper.Pass(context.Background()); err == nil || keeper.Waiting() != row.wants {
+				t.Error(row, err, keeper.Waiting())
+			}
+		})
 	}
 }
 

@@ -138,7 +138,9 @@ func TestWordsAndSettingsThatAreWrongAreNamed(t *testing.T) {
 		{2, "say the folders", "fsck"},
 		{2, "there is no archive", "fsck /nowhere"},
 	} {
-		is(t, row.status, row.says, strings.Fields(row.words)...)
+		t.Run(row.words, func(t *testing.T) {
+			is(t, row.status, row.says, strings.Fields(row.words)...)
+		})
 	}
 }
 

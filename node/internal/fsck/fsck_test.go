@@ -177,10 +177,12 @@ func TestWhatIsWrongIsFound(t *testing.T) {
 		{func(string, string) string { return "# nothing\n" }, ""},
 		{func(_, text string) string { return text[:len(text)/2] }, ""},
 	} {
-		text, err := run([]string{write(t, entries, row.change)}, nil)
-		if err == nil || !strings.Contains(err.Error(), row.says) || exit.Of(err) != exit.Gap {
-			t.Errorf("%q: %v, status %d, after %s", row.says, err, exit.Of(err), text)
-		}
+		t.Run(row.says, func(t *testing.T) {
+			text, err := run([]string{write(t, entries, row.change)}, nil)
+			if err == nil || !strings.Contains(err.Error(), row.says) || exit.Of(err) != exit.Gap {
+				t.Errorf("%q: %v, status %d, after %s", row.says, err, exit.Of(err), text)
+			}
+		})
 	}
 	other := write(t, entries, second("writer p1", "writer p2"))
 	if _, err := run([]string{write(t, entries, asItIs), other}, nil); err == nil || !strings.Contains(err.Error(), "differ") {
@@ -239,10 +241,12 @@ func TestTheEngineGoesOnFromTheArchives(t *testing.T) {
 		named string
 		right bool
 	}{{fmt.Sprintf("4 %d", last+1), false}, {fmt.Sprintf("5 %d", last), false}, {fmt.Sprintf("4 %d", last), true}} {
-		members.Put("epoch", row.named)
-		if _, err := run(nil, opened); (err == nil) != row.right || err != nil && !strings.Contains(err.Error(), "the engine names the epoch") {
-			t.Error(row, err)
-		}
+		t.Run(row.named, func(t *testing.T) {
+			members.Put("epoch", row.named)
+			if _, err := run(nil, opened); (err == nil) != row.right || err != nil && !strings.Contains(err.Error(), "the engine names the epoch") {
+				t.Error(row, err)
+			}
+		})
 	}
 	// Without the archive of the third epoch, and with its entries gone.
 	if removed, err := opened.RemoveEpoch(ctx, 3, nil, engine.Archive{From: 1, Before: last}); err != nil || !removed {

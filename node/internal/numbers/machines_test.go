@@ -103,6 +103,7 @@ func allMade(t *testing.T) map[string]map[string]bool {
 }
 
 func TestThePageHasEachNumberWithItsType(t *testing.T) {
+	t.Parallel()
 	told, all := toldOf(t, machines(t)), allMade(t)
 	for kind, made := range all {
 		for number := range made {
@@ -127,6 +128,7 @@ func TestThePageHasEachNumberWithItsType(t *testing.T) {
 }
 
 func TestThePageNamesNoOtherNumber(t *testing.T) {
+	t.Parallel()
 	names := map[string]bool{}
 	for _, made := range allMade(t) {
 		for number := range made {
@@ -159,6 +161,7 @@ func grouped(number int64) string {
 
 // Each number of this list is one of the code.
 func TestThePageHasTheStatusesAndSizesOfTheCode(t *testing.T) {
+	t.Parallel()
 	page, status := machines(t), func(name wire.Name) int { return wire.NewError(name, "").Status }
 	seconds := func(time time.Duration) string { return words[int(time.Seconds())] }
 	for _, says := range []string{

@@ -35,16 +35,18 @@ func TestAPrimaryComesBackAfterAnyWish(t *testing.T) {
 		{func(config *primary.Config) { config.Remembers = 7 }, []string{"7 ", "2 "}},
 		{func(config *primary.Config) { config.Seconds = 30 }, []string{"30 ", "600 "}},
 	} {
-		config := deployment.config("p2")
-		row.change(&config)
-		_, refused := deployment.primary(config)
-		err := <-refused.done
-		is(t, exit.Words, exit.Of(err))
-		for _, word := range row.says {
-			if err != nil && !strings.Contains(err.Error()+" ", word) {
-				t.Errorf("%v does not name %s", err, word)
+		t.Run(row.says[0], func(t *testing.T) {
+			config := deployment.config("p2")
+			row.change(&config)
+			_, refused := deployment.primary(config)
+			err := <-refused.done
+			is(t, exit.Words, exit.Of(err))
+			for _, word := range row.says {
+				if err != nil && !strings.Contains(err.Error()+" ", word) {
+					t.Errorf("%v does not name %s", err, word)
+				}
 			}
-		}
+		})
 	}
 	is(t, nil, process.end())
 }

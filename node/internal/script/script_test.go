@@ -43,6 +43,7 @@ answer ann 4 cd refused 9 OutOfRange
 `
 
 func TestAnEntryIsItsText(t *testing.T) {
+	t.Parallel()
 	if text := string(whole().Text()); text != wholeText {
 		t.Errorf("the text is\n%s", text)
 	}
@@ -57,6 +58,7 @@ func TestAnEntryIsItsText(t *testing.T) {
 
 // Scripts that began before clients were remembered for seconds have neither these nor ages.
 func TestAnEntryWithoutSeconds(t *testing.T) {
+	t.Parallel()
 	text := "ordup-node 1 epoch 2 ordup 1 writer p\nbegin 100 2 00ff 0.2.0 1000 10 00aa\nknown ann 3 ab 1 ok acked 7 epoch 1\n"
 	entry, err := Parse([]byte(text))
 	if err != nil {
@@ -72,6 +74,7 @@ func TestAnEntryWithoutSeconds(t *testing.T) {
 }
 
 func TestAnArchiveHasTheLinesOfOrdup(t *testing.T) {
+	t.Parallel()
 	entry := &Entry{Epoch: 1, Ordup: "0.2.0", Writer: "p1", Steps: []Step{
 		{Kind: Tell, Site: "south", Count: 2}, {Kind: Ask, Client: "ann", Number: 1, Words: "add:tea:1"}, {Kind: Settle, Count: 2},
 	}}
@@ -85,6 +88,7 @@ func TestAnArchiveHasTheLinesOfOrdup(t *testing.T) {
 }
 
 func TestWhatIsNoEntry(t *testing.T) {
+	t.Parallel()
 	header := "ordup-node 1 epoch 1 ordup 1 writer p\n"
 	for _, text := range []string{
 		"", "\n", "ordup-node", "# epoch 1\n", strings.TrimSuffix(header, "\n"), "ordup-node 1 epoch 0 ordup 1 writer p\n",
@@ -101,13 +105,16 @@ func TestWhatIsNoEntry(t *testing.T) {
 		header + "answer ann 1 ab refused x Syntax\n", header + "answer ann 1 ab refused 9 OutOfRange \n", header + "known ann 3 ab 1 refused\n", header + "leave \xff\n", header + "leave south north\n",
 		strings.Repeat("x", 2*MostEntryBytes+1),
 	} {
-		if entry, err := Parse([]byte(text)); err == nil {
-			t.Errorf("%.80q is %v", text, entry)
-		}
+		t.Run(fmt.Sprintf("%.60q", text), func(t *testing.T) {
+			if entry, err := Parse([]byte(text)); err == nil {
+				t.Errorf("%.80q is %v", text, entry)
+			}
+		})
 	}
 }
 
 func TestAnotherFormatIsTold(t *testing.T) {
+	t.Parallel()
 	_, err := Parse([]byte("ordup-node 2 epoch 1\nwhatever\n"))
 	if _, is := err.(*FormatError); !is {
 		t.Errorf("%v is not of the format", err)
@@ -116,6 +123,7 @@ func TestAnotherFormatIsTold(t *testing.T) {
 
 // Whatever bytes are changed, it is an entry with another meaning or none, and never a panic.
 func TestAnyBytes(t *testing.T) {
+	t.Parallel()
 	chance := rand.New(rand.NewSource(1))
 	for try := 0; try < 20000; try++ {
 		text := []byte(wholeText)
@@ -140,13 +148,16 @@ func TestAnyBytes(t *testing.T) {
 }
 
 func TestNames(t *testing.T) {
+	t.Parallel()
 	for name, is := range map[string][2]bool{
 		"ann": {true, true}, "": {}, "A": {}, "9a": {true, false}, "_": {true, false}, "a-b": {true, false}, "a/b": {}, "\xff": {},
 		"abcdefghijklmnop": {true, true}, "abcdefghijklmnopq": {true, false}, strings.Repeat("a", 64): {true, false}, strings.Repeat("a", 65): {},
 	} {
-		if got := [2]bool{IsClient(name), IsName(name)}; got != is {
-			t.Errorf("%q is a client and a name: %v", name, got)
-		}
+		t.Run(fmt.Sprintf("%.20q", name), func(t *testing.T) {
+			if got := [2]bool{IsClient(name), IsName(name)}; got != is {
+				t.Errorf("%q is a client and a name: %v", name, got)
+			}
+		})
 	}
 	if !IsNumber(1) || !IsNumber(MostNumber) || IsNumber(0) || IsNumber(MostNumber+1) || IsNumber(-1) {
 		t.Error("numbers")

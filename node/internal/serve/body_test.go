@@ -84,8 +84,10 @@ func TestWhoSendsALargeBodyReadsWhyItIsRefused(t *testing.T) {
 		{"no path", whole("POST /nowhere"), 405, `{"error":"NoSuchMethod"`},
 		{"an epoch", whole("GET /epoch"), 413, `{"error":"TooLarge"`},
 	} {
-		status, text := sent(t, address, row.send)
-		is(t, row.what, status, text, row.status, row.want)
+		t.Run(row.what, func(t *testing.T) {
+			status, text := sent(t, address, row.send)
+			is(t, row.what, status, text, row.status, row.want)
+		})
 	}
 	if len(writer.asked)+len(writer.wishes)+len(writer.places) > 0 {
 		t.Error(writer.asked, writer.wishes, writer.places)

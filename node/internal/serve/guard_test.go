@@ -123,8 +123,10 @@ func TestNoPageInABrowserChangesSomething(t *testing.T) {
 			{"application/json", address, 403, "OtherOrigin"},
 			{"text/plain", "https://evil.example", 403, "OtherOrigin"},
 		} {
-			status, text := ask(t, "POST", address+path, body, "Content-Type", row.kind, "Origin", row.origin)
-			is(t, path+row.kind+row.origin, status, text, row.status, `"error":"`+row.want+`"`)
+			t.Run(path+" "+row.kind+" "+row.origin, func(t *testing.T) {
+				status, text := ask(t, "POST", address+path, body, "Content-Type", row.kind, "Origin", row.origin)
+				is(t, path+row.kind+row.origin, status, text, row.status, `"error":"`+row.want+`"`)
+			})
 		}
 	}
 	if len(writer.asked)+len(writer.places)+len(writer.wishes) > 0 {
@@ -145,25 +147,27 @@ func TestARoleWithoutTokensIsClosed(t *testing.T) {
 		{[]serve.Role{serve.Operators}, 401, 403, 200, 404, 200},
 		{[]serve.Role{serve.Sites, serve.Operators}, 401, 200, 200, 404, 200},
 	} {
-		guard := &serve.Guard{}
-		if err := guard.Load(serve.Clients, tokens(t, "client-token-0001\n")); err != nil {
-			t.Fatal(err)
-		}
-		for _, role := range row.open {
-			if err := guard.Load(role, serve.Open); err != nil {
+		t.Run(fmt.Sprint("open to ", row.open), func(t *testing.T) {
+			guard := &serve.Guard{}
+			if err := guard.Load(serve.Clients, tokens(t, "client-token-0001\n")); err != nil {
 				t.Fatal(err)
 			}
-		}
-		address := startPrimary(t, guard, &writer{answer: script.Answer{Place: 1, Epoch: 1}})
-		for _, call := range []struct {
-			method, path, body string
-			want               int
-		}{{"POST", "/update", good, row.update}, {"POST", "/place", place, row.place}, {"POST", "/next", `{"from":1}`, row.next},
-			{"GET", "/metrics", "", row.look}, {"GET", "/healthz", "", row.healthz}} {
-			if status, text := ask(t, call.method, address+call.path, call.body); status != call.want {
-				t.Error(row.open, call.path, status, text)
+			for _, role := range row.open {
+				if err := guard.Load(role, serve.Open); err != nil {
+					t.Fatal(err)
+				}
 			}
-		}
+			address := startPrimary(t, guard, &writer{answer: script.Answer{Place: 1, Epoch: 1}})
+			for _, call := range []struct {
+				method, path, body string
+				want               int
+			}{{"POST", "/update", good, row.update}, {"POST", "/place", place, row.place}, {"POST", "/next", `{"from":1}`, row.next},
+				{"GET", "/metrics", "", row.look}, {"GET", "/healthz", "", row.healthz}} {
+				if status, text := ask(t, call.method, address+call.path, call.body); status != call.want {
+					t.Error(row.open, call.path, status, text)
+				}
+			}
+		})
 	}
 	if asks := (&serve.Guard{}).Asks(serve.Sites); asks != serve.Open {
 		t.Error(asks)
@@ -202,10 +206,12 @@ func TestATokenOfASiteTellsForItAlone(t *testing.T) {
 		{other, "token-of-far-0001", "far", "west", 403},
 		{other, "token-of-any-site", "far", "west", 200},
 	} {
-		body := fmt.Sprintf(`{"site":%q,"member":%q,"epoch":1,"applied":1,"entry":1}`, row.site, row.member)
-		if status, text := ask(t, "POST", row.address+"/place", body, "Authorization", "Bearer "+row.token); status != row.status {
-			t.Error(row, status, text)
-		}
+		t.Run(row.token+" "+row.site+" "+row.member, func(t *testing.T) {
+			body := fmt.Sprintf(`{"site":%q,"member":%q,"epoch":1,"applied":1,"entry":1}`, row.site, row.member)
+			if status, text := ask(t, "POST", row.address+"/place", body, "Authorization", "Bearer "+row.token); status != row.status {
+				t.Error(row, status, text)
+			}
+		})
 	}
 	if len(writer.places) != 3 { // The fleet told once, when both had.
 		t.Error(writer.places)

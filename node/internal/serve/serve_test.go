@@ -151,9 +151,11 @@ func TestAnUpdateIsAnswered(t *testing.T) {
 		{script.Answer{}, &primary.NotWriterError{}, 503, `"error":"NotWriter"`},
 		{script.Answer{}, errors.New("something"), 500, `"error":"Failed"`},
 	} {
-		writer.set(row.answer, row.err)
-		status, text := ask(t, "POST", address+"/update?wait=0.1", good)
-		is(t, row.want, status, text, row.status, row.want)
+		t.Run(row.want, func(t *testing.T) {
+			writer.set(row.answer, row.err)
+			status, text := ask(t, "POST", address+"/update?wait=0.1", good)
+			is(t, row.want, status, text, row.status, row.want)
+		})
 	}
 	if asked := writer.asked[0]; asked != (epoch.Request{Client: "ann", Number: 7, Changes: "add:tea:-5 add:till:20"}) {
 		t.Error(asked)
@@ -199,8 +201,10 @@ func TestWhatIsNoRequestIsRefused(t *testing.T) {
 		{"GET", "/../../etc/passwd", ``, 404, "NoSuchPath"},
 		{"GET", "/%ff%00", ``, 404, "NoSuchPath"},
 	} {
-		status, text := ask(t, row.method, address+row.path, row.body)
-		is(t, row.path+" "+row.body, status, text, row.status, row.want)
+		t.Run(fmt.Sprintf("%s %s %.40s", row.method, row.path, row.body), func(t *testing.T) {
+			status, text := ask(t, row.method, address+row.path, row.body)
+			is(t, row.path+" "+row.body, status, text, row.status, row.want)
+		})
 	}
 	if len(writer.asked)+len(writer.places)+len(writer.wishes) > 0 {
 		t.Error(writer.asked, writer.places, writer.wishes)
@@ -384,8 +388,10 @@ func TestAReaderIsShownNoLess(t *testing.T) {
 		{"/healthz", 200, "ok"},
 		{"/readyz", 200, "ok"},
 	} {
-		status, text := ask(t, "GET", address+row.path, "")
-		is(t, row.path, status, text, row.status, row.want)
+		t.Run(row.path, func(t *testing.T) {
+			status, text := ask(t, "GET", address+row.path, "")
+			is(t, row.path, status, text, row.status, row.want)
+		})
 	}
 	reader.place = -1
 	status, text := ask(t, "GET", address+"/values", "")

@@ -133,15 +133,17 @@ func TestWhenAPlaceIsTold(t *testing.T) {
 		{[]string{"count 3"}, 9, 9, false, time.Second, false, tellStill},
 		{nil, 9, 9, false, tellStill, true, 0},
 	} {
-		shown, told := &Shown{Epoch: 1, Place: row.place, Told: row.told, Limits: row.limits}, &epoch.Place{Epoch: 1, Applied: row.place}
-		if row.isNew {
-			told.Applied--
-		}
-		site.toldAt.Store(int64(clock.Now() - row.since))
-		isDue, again := site.isDue(shown, told)
-		if isDue != row.isDue || !isDue && (again > row.again-row.since || again < row.again-row.since-time.Second/50) {
-			t.Errorf("%v: %v, %v", row, isDue, again)
-		}
+		t.Run(fmt.Sprint(row), func(t *testing.T) {
+			shown, told := &Shown{Epoch: 1, Place: row.place, Told: row.told, Limits: row.limits}, &epoch.Place{Epoch: 1, Applied: row.place}
+			if row.isNew {
+				told.Applied--
+			}
+			site.toldAt.Store(int64(clock.Now() - row.since))
+			isDue, again := site.isDue(shown, told)
+			if isDue != row.isDue || !isDue && (again > row.again-row.since || again < row.again-row.since-time.Second/50) {
+				t.Errorf("%v: %v, %v", row, isDue, again)
+			}
+		})
 	}
 	isDue, again := site.isDue(nil, &epoch.Place{})
 	is(t, []any{false, tellAgain}, []any{isDue, again})

@@ -11,6 +11,7 @@ import (
 
 // The table of the package comment has the names and the statuses of the errors, and says of which one may ask again.
 func TestTheTableHasTheErrors(t *testing.T) {
+	t.Parallel()
 	source, err := os.ReadFile("wire.go")
 	if err != nil {
 		t.Fatal(err)
@@ -41,6 +42,7 @@ func TestTheTableHasTheErrors(t *testing.T) {
 
 // A name of a later version is an answer for good, and of no status that says more.
 func TestANameThatNobodyKnows(t *testing.T) {
+	t.Parallel()
 	err := &Error{Status: 418, Name: "Teapot"}
 	if err.Name.Again() != Never || err.ExitStatus() != exit.Environment || err.Error() != "Teapot" {
 		t.Error(err.Name.Again(), err.ExitStatus(), err)

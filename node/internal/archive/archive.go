@@ -80,11 +80,14 @@ func (k *Keeper) Run(ctx context.Context) {
 func (k *Keeper) Pass(ctx context.Context) (waits bool, err error) {
 	last, end, err := k.Engine.Epoch(ctx)
 	if err != nil {
-		return false, err
+		return false, fmt.Errorf("read the last epoch: %w", err)
 	}
 	from, err := k.Engine.First(ctx)
-	if err != nil || from == 0 {
-		return false, err
+	if err != nil {
+		return false, fmt.Errorf("read the first entry: %w", err)
+	}
+	if from == 0 {
+		return false, nil
 	}
 	for own := range k.looked {
 		if own.Before <= from {
@@ -98,7 +101,7 @@ func (k *Keeper) Pass(ctx context.Context) (waits bool, err error) {
 			if !engine.IsAway(err) {
 				k.waiting.Store(left + k.stuck(ctx, from, last))
 			}
-			return false, err
+			return false, fmt.Errorf("archive the epoch from the entry %d on: %w", from, err)
 		}
 		from = before
 		if !removed {

@@ -96,11 +96,14 @@ func answer(by *http.Client, request *http.Request, to any) (writer string, err 
 	defer answer.Body.Close()
 	body, err := io.ReadAll(io.LimitReader(answer.Body, wire.MostAnswer+1))
 	if err != nil {
-		return "", err
+		return "", fmt.Errorf("read the answer of %s: %w", request.URL.Host, err)
 	}
 	writer = answer.Header.Get(wire.WriterHeader)
 	if answer.StatusCode == http.StatusOK {
-		return writer, json.Unmarshal(body, to)
+		if err = json.Unmarshal(body, to); err != nil {
+			return writer, fmt.Errorf("read the answer of %s: %w", request.URL.Host, err)
+		}
+		return writer, nil
 	}
 	told := &wire.Error{}
 	if json.Unmarshal(body, told) != nil || told.Name == "" {
@@ -152,7 +155,7 @@ func (c *Client) fail(address string) {
 func (c *Client) try(ctx context.Context, address, method, path string, body []byte, to any) error {
 	request, err := http.NewRequestWithContext(ctx, method, address+path, bytes.NewReader(body))
 	if err != nil {
-		return err
+		return fmt.Errorf("ask %s: %w", address, err)
 	}
 	if body != nil {
 		request.Header.Set("Content-Type", "application/json")

@@ -49,12 +49,12 @@ func (a *askingSettings) client(log *logs.Log) (*client.Client, error) {
 	}
 	config.TLS, err = engine.TLSOf(a.authority, "", "", log)
 	if err != nil {
-		return nil, err
+		return nil, fmt.Errorf("authority: %w", err)
 	}
 	if a.token != "" {
 		tokens, err := reload.New(log, func() ([]serve.Token, error) { return serve.TokensOf(a.token) }, a.token)
 		if err != nil {
-			return nil, err
+			return nil, fmt.Errorf("token: %w", err)
 		}
 		config.Token = func() string { return tokens.Now()[0].Text }
 	}

@@ -1,6 +1,7 @@
 package command
 
 import (
+	"fmt"
 	"os"
 	"strings"
 
@@ -46,13 +47,13 @@ func (e *engineSettings) open(log *logs.Log) (*engine.Engine, error) {
 	config := engine.Config{Members: e.members, User: e.user}
 	secure, err := engine.TLSOf(e.authority, e.certificate, e.key, log)
 	if err != nil {
-		return nil, exit.With(exit.Environment, err)
+		return nil, exit.With(exit.Environment, fmt.Errorf("engine: %w", err))
 	}
 	config.TLS = secure
 	if e.password != "" {
 		text, err := os.ReadFile(e.password)
 		if err != nil {
-			return nil, err
+			return nil, fmt.Errorf("engine-password: %w", err)
 		}
 		config.Password = strings.TrimSpace(string(text))
 		if config.Password == "" {

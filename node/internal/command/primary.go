@@ -3,6 +3,7 @@ package command
 import (
 	"context"
 	"errors"
+	"fmt"
 	"os"
 
 	"ordup.dev/node/internal/archive"
@@ -55,12 +56,12 @@ func (p *primaryOwn) config(program *Program) (config primary.Config, err error)
 	if p.declarations != "" {
 		text, err := os.ReadFile(p.declarations)
 		if err != nil {
-			return config, err
+			return config, fmt.Errorf("declarations: %w", err)
 		}
 		config.Declarations = epoch.Declarations(string(text))
 	}
 	if err = archive.MakeFolder(p.archive); err != nil {
-		return config, err
+		return config, fmt.Errorf("archive: %w", err)
 	}
 	config.Engine, err = p.engine.open(program.Log)
 	return config, err
@@ -78,7 +79,7 @@ func (p *primaryOwn) run(ctx context.Context, program *Program) error {
 	}
 	secure, err := engine.TLSOf(p.authority, "", "", program.Log)
 	if err != nil {
-		return err
+		return fmt.Errorf("authority: %w", err)
 	}
 	lag := &numbers.Lag{}
 	seen := numbers.OfPrimary(program.version(), p.serving.open, process.Status)

@@ -61,7 +61,7 @@ func (s *servingSettings) secure(log *logs.Log) (*tls.Config, error) {
 	}
 	pair, err := reload.Pair(s.certificate, s.key, log)
 	if err != nil {
-		return nil, err
+		return nil, fmt.Errorf("certificate and key: %w", err)
 	}
 	return &tls.Config{MinVersion: tls.VersionTLS12,
 		GetCertificate: func(*tls.ClientHelloInfo) (*tls.Certificate, error) { return pair.Now(), nil }}, nil
@@ -81,7 +81,7 @@ func (s *servingSettings) check(log *logs.Log) error {
 			continue
 		}
 		if err := s.guard.Load(each.role, each.file); err != nil {
-			return err
+			return fmt.Errorf("tokens: %w", err)
 		}
 	}
 	log.Info("who-may-ask", "clients", s.guard.Asks(serve.Clients), "sites", s.guard.Asks(serve.Sites),

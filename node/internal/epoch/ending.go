@@ -73,7 +73,7 @@ func Check(open store.Open, settings *script.Settings, declarations []string) er
 	}
 	trial, err := open()
 	if err != nil {
-		return err
+		return fmt.Errorf("try the declarations: %w", err)
 	}
 	defer trial.Close()
 	answers, err := trial.Answers([]byte(text))
@@ -328,7 +328,7 @@ func (c *Core) carried() []script.Step {
 func (c *Core) following() (script.Settings, []string, error) {
 	text, err := c.store.NextDeclarations()
 	if err != nil {
-		return script.Settings{}, nil, err
+		return script.Settings{}, nil, fmt.Errorf("declare what comes after the epoch %d: %w", c.epoch, err)
 	}
 	declarations := Declarations(text)
 	if c.wish == nil || len(c.wish.Declarations) == 0 {
@@ -366,7 +366,7 @@ func (c *Core) begin(settings *script.Settings) error {
 	c.Close()
 	opened, err := c.config.Open()
 	if err != nil {
-		return err
+		return fmt.Errorf("begin the epoch %d: %w", c.epoch+1, err)
 	}
 	c.store, c.settings = opened, *settings
 	c.epoch, c.first, c.begun = c.epoch+1, c.carry.first, c.running

@@ -106,7 +106,7 @@ func (f *Fleet) Run(ctx context.Context, of Engine, log *logs.Log) error {
 func (f *Fleet) Look(ctx context.Context, of Engine) error {
 	holds, err := of.Holds(ctx, f.name)
 	if err != nil {
-		return err
+		return fmt.Errorf("look for the keys of the fleet %s: %w", f.name, err)
 	}
 	isListed, unlisted := map[string]bool{}, []string{}
 	for _, name := range f.names {

@@ -45,6 +45,7 @@ func start(up *teller, engine Engine) (*Fleet, func(member string, epochs, appli
 }
 
 func TestAFleetTellsTheLeastPlace(t *testing.T) {
+	t.Parallel()
 	up := &teller{}
 	_, tell := start(up, &keys{})
 	for _, err := range []error{tell("east", 1, 5, 7), tell("west", 1, 3, 5), tell("west", 1, 2, 4), tell("west", 1, 9, 9),
@@ -66,6 +67,7 @@ func TestAFleetTellsTheLeastPlace(t *testing.T) {
 
 // A fleet tells nothing before it saw which keys of it there are, and while one of them is of no member.
 func TestAFleetTellsNothingWhileOthersServe(t *testing.T) {
+	t.Parallel()
 	up, seen := &teller{}, &keys{err: errors.New("the engine is away")}
 	fleet, tell := start(up, seen)
 	tells := func(wants bool, why string) {
@@ -82,7 +84,7 @@ func TestAFleetTellsNothingWhileOthersServe(t *testing.T) {
 	}
 	look := func(err error, names ...string) {
 		seen.names, seen.err = names, err
-		if got := fleet.Look(context.Background(), seen); got != err {
+		if got := fleet.Look(context.Background(), seen); !errors.Is(got, err) {
 			t.Error(got)
 		}
 	}
@@ -101,6 +103,7 @@ func TestAFleetTellsNothingWhileOthersServe(t *testing.T) {
 
 // A place that is refused for good ends the site that told it, and not the one by whose place the fleet told.
 func TestAPlaceOfAnotherMemberIsRefused(t *testing.T) {
+	t.Parallel()
 	up := &teller{}
 	_, tell := start(up, &keys{})
 	tell("west", 1, 3, 5)

@@ -139,7 +139,7 @@ func (a *Audit) endEpoch(goesOn bool) error {
 	for _, site := range status.Sites {
 		record, err := a.store.Record(site.Name)
 		if err != nil {
-			return err
+			return fmt.Errorf("the record of %s in the epoch %d: %w", site.Name, status.Epoch, err)
 		}
 		rounds, err := a.check(status.Epoch, site.Name, record)
 		if err != nil {
@@ -159,7 +159,7 @@ func (a *Audit) endEpoch(goesOn bool) error {
 func (a *Audit) check(number int64, site, record string) (uint64, error) {
 	verdict, err := a.config.Checker.Check([]byte(record))
 	if err != nil {
-		return 0, err
+		return 0, fmt.Errorf("check the record of %s in the epoch %d: %w", site, number, err)
 	}
 	if verdict.Kind != answer.Yes {
 		return 0, &RecordError{number, site, fmt.Sprintf("%s %d %s", verdict.Kind, verdict.Row, verdict.Reason)}
@@ -170,7 +170,7 @@ func (a *Audit) check(number int64, site, record string) (uint64, error) {
 	}
 	series, err := a.config.Checker.CheckSeries([]byte(before + record))
 	if err != nil {
-		return 0, err
+		return 0, fmt.Errorf("check the records of %s up to the epoch %d: %w", site, number, err)
 	}
 	if series.Kind != answer.Yes {
 		return 0, &RecordError{number, site, fmt.Sprintf("with the one before: %s %d %d %s", series.Kind, series.Record, series.Row, series.Reason)}

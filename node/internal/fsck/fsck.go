@@ -186,7 +186,7 @@ func readFile(name string, number int64, take func(int64, *script.Entry) error) 
 func (r *reader) readEngine(ctx context.Context) error {
 	next, err := r.Engine.First(ctx)
 	if err != nil {
-		return err
+		return fmt.Errorf("read the first entry: %w", err)
 	}
 	if r.audit != nil {
 		if next > r.audit.Next() {
@@ -197,7 +197,7 @@ func (r *reader) readEngine(ctx context.Context) error {
 	}
 	named, first, err := r.Engine.Epoch(ctx)
 	if err != nil {
-		return err
+		return fmt.Errorf("read the last epoch: %w", err)
 	}
 	takeAll := func(raws []engine.Raw) error { return r.takeAll(ctx, raws) }
 	_, err = r.Engine.ReadAll(ctx, next, takeAll)

@@ -177,7 +177,7 @@ func (p *Primary) takeOver(ctx context.Context) error {
 			continue // The primary before was faster, or a write of it was late. So run that too.
 		}
 		if err != nil {
-			return err
+			return fmt.Errorf("take over: %w", err)
 		}
 		p.config.Log.Info("took-over", "entry", turn.Number, "writer", p.own)
 		p.follower.Mark.Set(turn.Number, turn.Text)

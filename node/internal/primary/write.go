@@ -2,6 +2,7 @@ package primary
 
 import (
 	"context"
+	"fmt"
 	"time"
 
 	"ordup.dev/node/internal/clock"
@@ -183,9 +184,13 @@ func (p *Primary) send(ctx context.Context, turn *epoch.Turn) error {
 		Last: turn.Last, Since: turn.Since}
 	for {
 		err := p.config.Engine.Write(ctx, write)
+		if err == nil {
+			p.counts.full.Store(false)
+			return nil
+		}
 		if !engine.IsAway(err) {
 			p.counts.full.Store(false)
-			return err
+			return fmt.Errorf("write the entry %d: %w", turn.Number, err)
 		}
 		if engine.IsFull(err) {
 			p.counts.full.Store(true)
@@ -193,7 +198,7 @@ func (p *Primary) send(ctx context.Context, turn *epoch.Turn) error {
 		p.config.Log.Warn("engine-away", "why", err)
 		clock.Pause(ctx, afterFailure)
 		if ctx.Err() != nil {
-			return err
+			return fmt.Errorf("write the entry %d: %w", turn.Number, err)
 		}
 	}
 }

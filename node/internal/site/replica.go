@@ -121,7 +121,7 @@ func (r *Replica) begin(number int64, entry *script.Entry) error {
 	r.Close()
 	r.store, err = r.open()
 	if err != nil {
-		return err
+		return fmt.Errorf("begin the epoch %d: %w", entry.Epoch, err)
 	}
 	r.epoch, r.place, r.told, r.sites, r.limits = entry.Epoch, 0, 0, map[string]bool{}, []string{}
 	lines := []byte{}

@@ -106,12 +106,13 @@ func (s *Site) mayServe(ctx context.Context, term engine.Term) error {
 	}
 	s.lock.Unlock()
 	last, err := s.config.Engine.Last(ctx, next)
+	if err != nil {
+		return fmt.Errorf("read the end of the script: %w", err)
+	}
 	s.lock.Lock()
 	defer s.lock.Unlock()
-	if err == nil {
-		s.first, s.term = last, term
-	}
-	return err
+	s.first, s.term = last, term
+	return nil
 }
 
 // Run follows the script and serves, until the context ends or an error ends the process. Then the lease is given back.
@@ -208,10 +209,11 @@ func (s *Site) start(ctx context.Context) error {
 		return err
 	}
 	s.end, err = s.config.Engine.Last(ctx, first)
-	if err == nil {
-		s.replica = NewReplica(s.config.Open, s.config.Versions, s.inName, first)
+	if err != nil {
+		return fmt.Errorf("read the end of the script: %w", err)
 	}
-	return err
+	s.replica = NewReplica(s.config.Open, s.config.Versions, s.inName, first)
+	return nil
 }
 
 // show shows values to readers, if they are served. It wakes those that waited for them.

@@ -14,35 +14,44 @@ import (
 )
 
 // Update asks for an update until there is an answer, or the context ends. What the store refuses is a *wire.Error.
-func (c *Client) Update(ctx context.Context, update wire.Update) (acked wire.Acked, err error) {
-	err = c.post(ctx, wire.UpdatePath+waiting(waitIn(ctx)), update, &acked)
-	return acked, err
+func (c *Client) Update(ctx context.Context, update wire.Update) (wire.Acked, error) {
+	return posted[wire.Acked](ctx, c, wire.UpdatePath+waiting(waitIn(ctx)), update)
 }
 
 // Next asks for the next epoch until it has begun, or the context ends.
-func (c *Client) Next(ctx context.Context, next wire.Next) (begun wire.Begun, err error) {
-	err = c.post(ctx, wire.NextPath+waiting(waitIn(ctx)), next, &begun)
-	return begun, err
+func (c *Client) Next(ctx context.Context, next wire.Next) (wire.Begun, error) {
+	return posted[wire.Begun](ctx, c, wire.NextPath+waiting(waitIn(ctx)), next)
 }
 
 // Epoch asks for the epoch.
-func (c *Client) Epoch(ctx context.Context) (begun wire.Begun, err error) {
-	err = c.ask(ctx, http.MethodGet, wire.EpochPath, nil, &begun)
-	return begun, err
+func (c *Client) Epoch(ctx context.Context) (wire.Begun, error) {
+	return got[wire.Begun](ctx, c, wire.EpochPath)
 }
 
 // Value reads a value. Where the site does not get in time to what was seen, that is a *wire.Error.
-func (c *Client) Value(ctx context.Context, object, seen string, wait time.Duration) (value wire.Value, err error) {
-	path := wire.ValuePath + url.PathEscape(object) + waiting(wait) + "&seen=" + url.QueryEscape(seen)
-	err = c.ask(ctx, http.MethodGet, path, nil, &value)
-	return value, err
+func (c *Client) Value(ctx context.Context, object, seen string, wait time.Duration) (wire.Value, error) {
+	return got[wire.Value](ctx, c, wire.ValuePath+url.PathEscape(object)+waiting(wait)+"&seen="+url.QueryEscape(seen))
 }
 
 // Values reads all values.
-func (c *Client) Values(ctx context.Context, seen string, wait time.Duration) (values wire.Values, err error) {
-	path := wire.ValuesPath + waiting(wait) + "&seen=" + url.QueryEscape(seen)
-	err = c.ask(ctx, http.MethodGet, path, nil, &values)
-	return values, err
+func (c *Client) Values(ctx context.Context, seen string, wait time.Duration) (wire.Values, error) {
+	return got[wire.Values](ctx, c, wire.ValuesPath+waiting(wait)+"&seen="+url.QueryEscape(seen))
+}
+
+// got asks by GET for an answer of a type, as ask does.
+func got[T any](ctx context.Context, by *Client, path string) (answer T, err error) {
+	err = by.ask(ctx, http.MethodGet, path, nil, &answer)
+	return answer, err
+}
+
+// posted asks by POST for one.
+func posted[T any](ctx context.Context, by *Client, path string, value any) (answer T, err error) {
+	body, err := json.Marshal(value)
+	if err != nil {
+		return answer, fmt.Errorf("ask at %s: %w", path, err)
+	}
+	err = by.ask(ctx, http.MethodPost, path, body, &answer)
+	return answer, err
 }
 
 // Tell tells a place, at each address once.
@@ -92,14 +101,6 @@ func refusalOf(err error, place epoch.Place) error {
 		return &refusal{told, epoch.ErrNoSite}
 	}
 	return err
-}
-
-func (c *Client) post(ctx context.Context, path string, value, to any) error {
-	body, err := json.Marshal(value)
-	if err != nil {
-		return err
-	}
-	return c.ask(ctx, http.MethodPost, path, body, to)
 }
 
 // waitIn is how long a server is asked to wait for an answer: less than there is time, so that it can say why there is none.

@@ -106,5 +106,3 @@ func (q *queue) pop() asker {
 	}
 	return asked
 }
-
-func (q *queue) len() int { return len(q.askers) - q.front }

@@ -60,6 +60,7 @@ func (m *Members) Calls() *Calls {
 		m.t.Fatal(err)
 	}
 	calls := &Calls{member: member, address: "http://" + listener.Addr().String(), judge: func(Call) Fate { return Passes }}
+	//lint:ignore SA1019 A codec that is registered would be that of the whole process.
 	server := grpc.NewServer(grpc.CustomCodec(raw{}), grpc.UnknownServiceHandler(calls.carry))
 	go server.Serve(listener)
 	m.t.Cleanup(func() { server.Stop(); member.Close() })

@@ -306,7 +306,7 @@ func TestASiteIsTakenOut(t *testing.T) {
 	is(t, exit.NotInScript, exit.Of(<-processNorth.done))
 	is(t, nil, processSouth.end())
 	// A site that never comes back is taken out too, once it has no lease.
-	begun, err = deployment.next(epoch.Wish{From: 2, Declarations: shop[2:4:4]})
+	_, err = deployment.next(epoch.Wish{From: 2, Declarations: shop[2:4:4]})
 	is(t, true, err != nil)
 	begun, err = deployment.next(epoch.Wish{From: 2, Declarations: append([]string{"object tea 1"}, shop[2:]...)})
 	is(t, nil, err)

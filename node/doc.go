@@ -113,15 +113,16 @@
 //
 // # The parts
 //
-//	script       the form of an entry
+//	script       the form of an entry, and of an answer
 //	epoch        the core: what the script comes to, and the next entry. Pure
 //	engine       etcd: transactions, pages, watches, leases. No other package knows it
 //	primary      the process that writes or stands by
 //	site         the process that serves readers
+//	follower     how a primary that stands by and a site follow the script
 //	fleet        the place of several sites
 //	archive      the files of past epochs
 //	fsck         checks them and the script from the first epoch on
-//	wire         what travels by HTTP, with its table of statuses
+//	wire         what travels by HTTP, with its table of errors. It knows none of the others but exit
 //	listen       a server of HTTP for whoever comes
 //	serve        the paths of a primary, a site and a fleet, and who may ask at them
 //	client       asks them

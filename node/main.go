@@ -4,10 +4,10 @@ import (
 	"os"
 	"strings"
 
-	"ordup-node/internal/command"
-	"ordup-node/internal/exit"
-	"ordup-node/internal/library"
-	"ordup-node/internal/logs"
+	"ordup.dev/node/internal/command"
+	"ordup.dev/node/internal/exit"
+	"ordup.dev/node/internal/library"
+	"ordup.dev/node/internal/logs"
 )
 
 // version is that of ordup, whose library is linked. node/build sets it.
@@ -19,7 +19,8 @@ var before = "0.2.0"
 func main() {
 	ctx, cancel := exit.Until()
 	versions := strings.Fields(version + " " + before)
-	program := &command.Program{Versions: versions, Open: library.Open, Out: os.Stdout, Err: os.Stderr, Log: logs.New(os.Stderr)}
+	program := &command.Program{Versions: versions, Open: library.Open, Checker: library.Checker, Out: os.Stdout, Err: os.Stderr,
+		Log: logs.New(os.Stderr)}
 	status := program.Run(ctx, os.Args[1:])
 	cancel()
 	os.Exit(int(status))

@@ -37,9 +37,9 @@ OPENING = "What follows is of the code of others that is linked into ordup-node,
 
 def imported(library):
     """The import paths of what is linked, but for those of Go itself and of ordup."""
-    words = ["--do", "list", "-deps", "-f", "{{if not .Standard}}{{.ImportPath}}{{end}}"]
-    said = said_by("env", "NODE_PACKAGES=main.go", TOP / "node/build", library, *words)
-    return [it for it in said.split() if not re.match(r"ordup(-node)?(/|$)", it)]
+    words = ["--do", "list", "-tags", "library", "-deps", "-f", "{{if not .Standard}}{{.ImportPath}}{{end}}"]
+    said = said_by("env", "NODE_PACKAGES=.", TOP / "node/build", library, *words)
+    return [it for it in said.split() if not it.startswith("ordup.dev/")]
 
 
 def package_of(path):

@@ -10,7 +10,7 @@ import (
 	"strconv"
 	"time"
 
-	"ordup"
+	"ordup.dev/ordup"
 )
 
 func main() {

@@ -57,7 +57,7 @@ var (
 var isName = regexp.MustCompile(`^[a-z][a-z0-9_]{0,15}$`).MatchString
 
 // ask answers a command. A text that has not the form of a name, among those that must, is a *BadLine: it could be another command.
-func ask[A Answer](store *Store, names []string, format string, words ...interface{}) (answer A, err error) {
+func ask[A Answer](store *Store, names []string, format string, words ...any) (answer A, err error) {
 	for _, name := range names {
 		if !isName(name) {
 			return answer, &BadLine{name}
@@ -77,25 +77,25 @@ func ask[A Answer](store *Store, names []string, format string, words ...interfa
 // Object declares an object with its initial value, from -1,000,000,000 to 1,000,000,000. There are at most 256 objects.
 //
 // Refused AlreadyStarted, NameTaken, OutOfRange or TooMany.
-func (store *Store) Object(name string, value int64) error {
-	_, err := ask[Declared](store, []string{name}, "object %s %d", name, value)
+func (s *Store) Object(name string, value int64) error {
+	_, err := ask[Declared](s, []string{name}, "object %s %d", name, value)
 	return err
 }
 
 // Group declares a group of 1 to 64 objects, which a limit weighs together. There are at most 32 groups.
 //
 // Refused AlreadyStarted, NameTaken, UnknownObject, TooMany, Empty or Repeated.
-func (store *Store) Group(name string, members ...string) error {
+func (s *Store) Group(name string, members ...string) error {
 	names := append([]string{name}, members...)
-	_, err := ask[Declared](store, names, "group %s", strings.Join(names, " "))
+	_, err := ask[Declared](s, names, "group %s", strings.Join(names, " "))
 	return err
 }
 
 // Site declares a site. Its feed holds up to capacity updates that it has not applied, 1 to 1,024. There are at most 16 sites.
 //
 // Refused AlreadyStarted, NameTaken, OutOfRange or TooMany.
-func (store *Store) Site(name string, capacity uint64) error {
-	_, err := ask[Declared](store, []string{name}, "site %s %d", name, capacity)
+func (s *Store) Site(name string, capacity uint64) error {
+	_, err := ask[Declared](s, []string{name}, "site %s %d", name, capacity)
 	return err
 }
 
@@ -103,16 +103,16 @@ func (store *Store) Site(name string, capacity uint64) error {
 // the scope, 0 to 10^18. A site has at most 64 limits, each on a scope of its own.
 //
 // Refused AlreadyStarted, UnknownObject, UnknownGroup, UnknownSite, OutOfRange, TooMany or Repeated.
-func (store *Store) Limit(site string, scope Scope, amount uint64) error {
-	_, err := ask[Declared](store, append([]string{site}, scope.names...), "limit %s %s %d", site, scope.words, amount)
+func (s *Store) Limit(site string, scope Scope, amount uint64) error {
+	_, err := ask[Declared](s, append([]string{site}, scope.names...), "limit %s %s %d", site, scope.words, amount)
 	return err
 }
 
 // Start starts the store. The log is empty, and each site has the initial values. Declarations come before it, all else after it.
 //
 // Refused AlreadyStarted or Empty.
-func (store *Store) Start() error {
-	_, err := ask[Started](store, nil, "start")
+func (s *Store) Start() error {
+	_, err := ask[Started](s, nil, "start")
 	return err
 }
 
@@ -120,29 +120,29 @@ func (store *Store) Start() error {
 // place in the log, 1 to 1,000,000. Each number, and each value after the update, is from -1,000,000,000 to 1,000,000,000.
 //
 // Refused NotStarted, UnknownObject, OutOfRange, TooMany, Empty, Repeated or LogFull.
-func (store *Store) Propose(changes ...Change) (uint64, error) {
+func (s *Store) Propose(changes ...Change) (uint64, error) {
 	line, names := "propose", []string{}
 	for _, change := range changes {
 		line += " " + change.word
 		names = append(names, change.names...)
 	}
-	proposed, err := ask[Proposed](store, names, "%s", line)
+	proposed, err := ask[Proposed](s, names, "%s", line)
 	return proposed.Place, err
 }
 
 // Send puts the first update that was not sent to a site into its feed, acknowledged or not, and gives its place.
 //
 // Refused NotStarted, UnknownSite, NothingToSend or FeedFull.
-func (store *Store) Send(site string) (uint64, error) {
-	sent, err := ask[Sent](store, []string{site}, "send %s", site)
+func (s *Store) Send(site string) (uint64, error) {
+	sent, err := ask[Sent](s, []string{site}, "send %s", site)
 	return sent.Place, err
 }
 
 // Apply has a site apply the next update of its feed, and gives its place.
 //
 // Refused NotStarted, UnknownSite or NothingToApply.
-func (store *Store) Apply(site string) (uint64, error) {
-	applied, err := ask[Applied](store, []string{site}, "apply %s", site)
+func (s *Store) Apply(site string) (uint64, error) {
+	applied, err := ask[Applied](s, []string{site}, "apply %s", site)
 	return applied.Place, err
 }
 
@@ -150,59 +150,59 @@ func (store *Store) Apply(site string) (uint64, error) {
 // report.
 //
 // Refused NotStarted or UnknownSite.
-func (store *Store) Report(site string) (uint64, error) {
-	reported, err := ask[Reported](store, []string{site}, "report %s", site)
+func (s *Store) Report(site string) (uint64, error) {
+	reported, err := ask[Reported](s, []string{site}, "report %s", site)
 	return reported.Applied, err
 }
 
 // Settle asks the primary to acknowledge the head, which is the first update that is not acknowledged, and says what became of it.
 //
 // Refused NotStarted or NothingToSettle.
-func (store *Store) Settle() (Settled, error) { return ask[Settled](store, nil, "settle") }
+func (s *Store) Settle() (Settled, error) { return ask[Settled](s, nil, "settle") }
 
 // Begin begins a query at a site, and gives its reference: how many updates are acknowledged now. Its reads may import at most
 // limit in sum, 0 to 10^18, in the unit of the values. At most 64 queries are open at a time.
 //
 // Refused NotStarted, UnknownSite, OutOfRange, TooMany or QueryOpen.
-func (store *Store) Begin(query, site string, limit uint64) (uint64, error) {
-	begun, err := ask[Begun](store, []string{query, site}, "begin %s %s %d", query, site, limit)
+func (s *Store) Begin(query, site string, limit uint64) (uint64, error) {
+	begun, err := ask[Begun](s, []string{query, site}, "begin %s %s %d", query, site, limit)
 	return begun.Place, err
 }
 
 // Read reads an object by a query, at the query's site.
 //
 // Refused NotStarted, UnknownObject, UnknownQuery, TooMany or OverImport.
-func (store *Store) Read(query, object string) (Read, error) {
-	return ask[Read](store, []string{query, object}, "read %s %s", query, object)
+func (s *Store) Read(query, object string) (Read, error) {
+	return ask[Read](s, []string{query, object}, "read %s %s", query, object)
 }
 
 // End ends a query, and gives the sum of what it read. Its name is free again.
 //
 // Refused NotStarted or UnknownQuery.
-func (store *Store) End(query string) (Ended, error) {
-	return ask[Ended](store, []string{query}, "end %s", query)
+func (s *Store) End(query string) (Ended, error) {
+	return ask[Ended](s, []string{query}, "end %s", query)
 }
 
 // Abandon ends a query without its sum. Its name is free again.
 //
 // Refused NotStarted or UnknownQuery.
-func (store *Store) Abandon(query string) error {
-	_, err := ask[Abandoned](store, []string{query}, "abandon %s", query)
+func (s *Store) Abandon(query string) error {
+	_, err := ask[Abandoned](s, []string{query}, "abandon %s", query)
 	return err
 }
 
 // Show shows how far a site is, and its values.
 //
 // Refused NotStarted or UnknownSite.
-func (store *Store) Show(site string) (Shown, error) {
-	return ask[Shown](store, []string{site}, "show %s", site)
+func (s *Store) Show(site string) (Shown, error) {
+	return ask[Shown](s, []string{site}, "show %s", site)
 }
 
 // Certify shows that the forced rounds of a site are the fewest. The answer has a window for each of them, so it may be long.
 //
 // Refused NotStarted or UnknownSite.
-func (store *Store) Certify(site string) (Certified, error) {
-	return ask[Certified](store, []string{site}, "certify %s", site)
+func (s *Store) Certify(site string) (Certified, error) {
+	return ask[Certified](s, []string{site}, "certify %s", site)
 }
 
 // Relimit changes a limit of a site while the store runs, or gives it one, and gives the place of the head, from which on it is in
@@ -210,8 +210,8 @@ func (store *Store) Certify(site string) (Certified, error) {
 // the first.
 //
 // Refused NotStarted, UnknownObject, UnknownGroup, UnknownSite, OutOfRange, TooMany, HeadPending or LagOver.
-func (store *Store) Relimit(site string, scope Scope, amount uint64) (uint64, error) {
+func (s *Store) Relimit(site string, scope Scope, amount uint64) (uint64, error) {
 	names := append([]string{site}, scope.names...)
-	relimited, err := ask[Relimited](store, names, "relimit %s %s %d", site, scope.words, amount)
+	relimited, err := ask[Relimited](s, names, "relimit %s %s %d", site, scope.words, amount)
 	return relimited.Place, err
 }

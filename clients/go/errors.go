@@ -14,23 +14,11 @@ var (
 	ErrNotYet      = errors.New("ordup: an update is not acknowledged yet")
 )
 
-// Refused is the store's answer `refused NUMBER NAME` to a line. After it all is as before. docs/FORMATS.md has the numbers, 1 to 26, and
-// their names. errors.As finds it.
-type Refused struct {
-	Number int
-	Name   string
-	Line   string
-}
-
-func (refused *Refused) Error() string {
-	return fmt.Sprintf("%s: refused %d %s", refused.Line, refused.Number, refused.Name)
-}
-
 // BadLine is a text that is no command, or no name. The store was not asked.
 type BadLine struct{ Text string }
 
-func (bad *BadLine) Error() string {
-	return fmt.Sprintf("ordup: %q is no command, or no name", bad.Text)
+func (bl *BadLine) Error() string {
+	return fmt.Sprintf("ordup: %q is no command, or no name", bl.Text)
 }
 
 // NoMemory says that memory was refused. Nothing is lost: the lines in the first Taken bytes of the text were taken, and the rest of

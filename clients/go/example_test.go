@@ -4,7 +4,7 @@ import (
 	"fmt"
 	"log"
 
-	"ordup"
+	"ordup.dev/ordup"
 )
 
 func Example() {

@@ -1,3 +1,3 @@
-module ordup
+module ordup.dev/ordup
 
 go 1.19

@@ -22,6 +22,8 @@ import (
 	"strings"
 	"sync"
 	"unsafe"
+
+	"ordup.dev/ordup/answer"
 )
 
 // firstRoom and mostRoom are how many bytes of answers the library may write at once: at first, and where there were more answers.
@@ -63,14 +65,14 @@ func Open() (*Store, error) {
 }
 
 // Close closes the store and gives its memory back. Each later call fails with ErrClosed. It returns nil.
-func (store *Store) Close() error {
-	store.lock.Lock()
-	defer store.lock.Unlock()
-	if store.at != nil {
-		C.ordup_close(store.at)
-		C.free(unsafe.Pointer(store.at))
-		store.at = nil
-		runtime.SetFinalizer(store, nil)
+func (s *Store) Close() error {
+	s.lock.Lock()
+	defer s.lock.Unlock()
+	if s.at != nil {
+		C.ordup_close(s.at)
+		C.free(unsafe.Pointer(s.at))
+		s.at = nil
+		runtime.SetFinalizer(s, nil)
 	}
 	return nil
 }
@@ -79,24 +81,24 @@ func (store *Store) Close() error {
 // another call comes between them.
 //
 // Where memory is refused the error is a *NoMemory, which says which lines were taken, and their answers are returned with it.
-func (store *Store) Run(text []byte) ([]byte, error) {
-	store.lock.Lock()
-	defer store.lock.Unlock()
-	if store.at == nil {
+func (s *Store) Run(text []byte) ([]byte, error) {
+	s.lock.Lock()
+	defer s.lock.Unlock()
+	if s.at == nil {
 		return nil, ErrClosed
 	}
 	var outcome error
 	answers, rest := []byte{}, text
 	for {
-		status := C.ordup_run(store.at, pointer(rest), C.size_t(len(rest)), &store.taken,
-			pointer(store.room), C.size_t(len(store.room)), &store.written)
-		answers, rest = append(answers, store.room[:store.written]...), rest[store.taken:]
+		status := C.ordup_run(s.at, pointer(rest), C.size_t(len(rest)), &s.taken,
+			pointer(s.room), C.size_t(len(s.room)), &s.written)
+		answers, rest = append(answers, s.room[:s.written]...), rest[s.taken:]
 		switch {
 		case status == C.ORDUP_DONE:
 			return answers, outcome
 		case status == C.ORDUP_MORE:
-			if len(store.room) < mostRoom {
-				store.room = make([]byte, 2*len(store.room))
+			if len(s.room) < mostRoom {
+				s.room = make([]byte, 2*len(s.room))
 			}
 		case status == C.ORDUP_NO_MEMORY:
 			outcome = fault(status, len(text)-len(rest))
@@ -108,8 +110,8 @@ func (store *Store) Run(text []byte) ([]byte, error) {
 }
 
 // Command answers one command, as it is. A refusal is the error, a *Refused.
-func (store *Store) Command(line string) (Answer, error) {
-	outcomes, err := store.Commands(line)
+func (s *Store) Command(line string) (Answer, error) {
+	outcomes, err := s.Commands(line)
 	if err != nil {
 		return nil, err
 	}
@@ -123,7 +125,7 @@ func (store *Store) Command(line string) (Answer, error) {
 // more than a line, the error is a *BadLine and no command was asked.
 //
 // Where memory is refused the answers to the commands that were taken are returned with the error, a *NoMemory.
-func (store *Store) Commands(lines ...string) ([]Answer, error) {
+func (s *Store) Commands(lines ...string) ([]Answer, error) {
 	var text bytes.Buffer
 	for _, line := range lines {
 		if !isCommand(line) {
@@ -132,48 +134,55 @@ func (store *Store) Commands(lines ...string) ([]Answer, error) {
 		text.WriteString(line)
 		text.WriteByte('\n')
 	}
-	answers, err := store.Run(text.Bytes())
+	outcomes, err := s.Answers(text.Bytes())
 	taken := len(lines)
 	if short, isShort := err.(*NoMemory); isShort {
 		taken = bytes.Count(text.Bytes()[:short.Taken], []byte{'\n'})
 	} else if err != nil {
 		return nil, err
 	}
-	texts := strings.Split(string(answers), "\n")
-	if len(texts)-1 != taken {
-		return nil, fmt.Errorf("ordup: there are %d answers to %d lines", len(texts)-1, taken)
-	}
-	outcomes := make([]Answer, taken)
-	for index := range outcomes {
-		var bad error
-		if outcomes[index], bad = parse(texts[index], lines[index]); bad != nil {
-			return nil, bad
-		}
+	if len(outcomes) != taken {
+		return nil, fmt.Errorf("ordup: there are %d answers to %d lines", len(outcomes), taken)
 	}
 	return outcomes, err
 }
 
+// Answers answers the lines of a text, as Run does. A refusal is one of the answers, a *Refused.
+//
+// Where memory is refused the answers to the lines that were taken are returned with the error, a *NoMemory.
+func (s *Store) Answers(text []byte) ([]Answer, error) {
+	given, err := s.Run(text)
+	if err != nil && given == nil {
+		return nil, err
+	}
+	answers, bad := answer.ParseAll(string(given), text)
+	if bad != nil {
+		return nil, bad
+	}
+	return answers, err
+}
+
 // Record gives the record of a site, for an auditor: as `ordup record` prints it. The store is as it was. The error is ErrNotStarted,
 // ErrUnknownSite, ErrClosed or a *NoMemory.
-func (store *Store) Record(site string) (string, error) {
+func (s *Store) Record(site string) (string, error) {
 	name := []byte(site)
-	return store.given(func(room []byte, written *C.size_t) C.uint32_t {
-		return C.ordup_record(store.at, pointer(name), C.size_t(len(name)), pointer(room), C.size_t(len(room)), written)
+	return s.given(func(room []byte, written *C.size_t) C.uint32_t {
+		return C.ordup_record(s.at, pointer(name), C.size_t(len(name)), pointer(room), C.size_t(len(room)), written)
 	})
 }
 
 // NextDeclarations gives the declarations of the successor, which begins with what this store ends with, once all updates are
 // acknowledged: as `ordup next` prints them. The store is as it was. The error is ErrNotStarted, ErrNotYet, ErrClosed or a *NoMemory.
-func (store *Store) NextDeclarations() (string, error) {
-	return store.given(func(room []byte, written *C.size_t) C.uint32_t {
-		return C.ordup_next(store.at, pointer(room), C.size_t(len(room)), written)
+func (s *Store) NextDeclarations() (string, error) {
+	return s.given(func(room []byte, written *C.size_t) C.uint32_t {
+		return C.ordup_next(s.at, pointer(room), C.size_t(len(room)), written)
 	})
 }
 
-func (store *Store) given(call func([]byte, *C.size_t) C.uint32_t) (string, error) {
-	store.lock.Lock()
-	defer store.lock.Unlock()
-	if store.at == nil {
+func (s *Store) given(call func([]byte, *C.size_t) C.uint32_t) (string, error) {
+	s.lock.Lock()
+	defer s.lock.Unlock()
+	if s.at == nil {
 		return "", ErrClosed
 	}
 	return given(65536, call)
@@ -188,7 +197,7 @@ func Check(record []byte) (Verdict, error) {
 	if err != nil {
 		return Verdict{}, err
 	}
-	return parseVerdict(strings.TrimSuffix(text, "\n"))
+	return answer.ParseVerdict(strings.TrimSuffix(text, "\n"))
 }
 
 // CheckSeries checks the records of a site, one after another, of a store and of those that go on from it, as `ordup check --series`
@@ -200,7 +209,7 @@ func CheckSeries(records []byte) (SeriesVerdict, error) {
 	if err != nil {
 		return SeriesVerdict{}, err
 	}
-	return parseSeriesVerdict(strings.TrimSuffix(text, "\n"))
+	return answer.ParseSeriesVerdict(strings.TrimSuffix(text, "\n"))
 }
 
 // given is what a call writes, which says how much room it needs.
@@ -236,7 +245,7 @@ func isCommand(line string) bool {
 			return false
 		}
 	}
-	return len(line) <= mostBytes && !strings.HasPrefix(line, "#") && strings.Trim(line, " ") != ""
+	return len(line) <= mostBytes && answer.HasAnswer(line)
 }
 
 // fault is the error that a status says.

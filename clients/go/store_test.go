@@ -34,7 +34,7 @@ func shop(t *testing.T) *Store {
 }
 
 // is fails the test where a call gave something else, or an error.
-func is(t *testing.T, wanted interface{}, given interface{}, err error) {
+func is(t *testing.T, wanted any, given any, err error) {
 	t.Helper()
 	if err != nil || !reflect.DeepEqual(given, wanted) {
 		t.Errorf("%#v, %v instead of %#v", given, err, wanted)
@@ -60,16 +60,16 @@ func TestTheTourOfTheReadmeByMethods(t *testing.T) {
 	store := shop(t)
 	one(t, 1)(store.Propose(Add("tea", -5)))
 	settled, err := store.Settle()
-	is(t, Settled{Acked, 1, []string{}}, settled, err)
+	is(t, Settled{State: Acked, Place: 1, Sites: []string{}}, settled, err)
 	one(t, 1)(store.Begin("look", "south", 5))
 	read, err := store.Read("look", "tea")
-	is(t, Read{"look", "tea", 40, 5, 5}, read, err)
+	is(t, Read{Query: "look", Object: "tea", Value: 40, Imported: 5, Total: 5}, read, err)
 	ended, err := store.End("look")
-	is(t, Ended{"look", 1, 40, 5, 1}, ended, err)
+	is(t, Ended{Query: "look", Place: 1, Sum: 40, Total: 5, Reads: 1}, ended, err)
 	one(t, 2)(store.Propose(Add("tea", 2)))
 	for _, state := range []State{Round, Waiting} {
 		settled, err = store.Settle()
-		is(t, Settled{state, 2, []string{"south"}}, settled, err)
+		is(t, Settled{State: state, Place: 2, Sites: []string{"south"}}, settled, err)
 	}
 	one(t, 1)(store.Send("south"))
 	one(t, 2)(store.Send("south"))
@@ -77,11 +77,11 @@ func TestTheTourOfTheReadmeByMethods(t *testing.T) {
 	one(t, 2)(store.Apply("south"))
 	one(t, 2)(store.Report("south"))
 	settled, err = store.Settle()
-	is(t, Settled{Acked, 2, []string{}}, settled, err)
+	is(t, Settled{State: Acked, Place: 2, Sites: []string{}}, settled, err)
 	shown, err := store.Show("south")
-	is(t, Shown{"south", 2, 2, 2, 1, map[string]int64{"tea": 37}}, shown, err)
+	is(t, Shown{Site: "south", Sent: 2, Applied: 2, Reported: 2, Rounds: 1, Values: map[string]int64{"tea": 37}}, shown, err)
 	certified, err := store.Certify("south")
-	is(t, Certified{"south", 1, [][2]uint64{{0, 2}}}, certified, err)
+	is(t, Certified{Site: "south", Rounds: 1, Windows: [][2]uint64{{0, 2}}}, certified, err)
 }
 
 func TestTheOtherCommandsByMethods(t *testing.T) {
@@ -161,7 +161,7 @@ func TestALineThatBeginsWithASpaceIsNoComment(t *testing.T) {
 func TestManyCommandsHaveTheirAnswersInOrder(t *testing.T) {
 	given, err := shop(t).Commands("settle", "propose add:tea:1", "bad", "settle")
 	wanted := []Answer{
-		&Refused{17, "NothingToSettle", "settle"}, Proposed{1}, &Refused{1, "Syntax", "bad"}, Settled{Acked, 1, []string{}},
+		&Refused{Number: 17, Name: "NothingToSettle", Line: "settle"}, Proposed{Place: 1}, &Refused{Number: 1, Name: "Syntax", Line: "bad"}, Settled{State: Acked, Place: 1, Sites: []string{}},
 	}
 	is(t, wanted, given, err)
 	given, err = shop(t).Commands()

@@ -6,7 +6,7 @@ import (
 	"log"
 	"os"
 
-	"ordup"
+	"ordup.dev/ordup"
 )
 
 func main() {

@@ -5,27 +5,27 @@ Edit = tuple[str, str, str]
 Mistakes = dict[str, list[Edit]]
 
 TAKEN = "case request.Number > last.number:\n"
-OVER = "	return site.applied < updates || site.leaves && !site.gone\n"
-SERVED = "	shown, changed, first, term, taken := site.shown, site.changed, site.first, site.term, site.taken\n"
-SERVES = "	if shown == nil || shown.Entry < first || !site.lease.Lives(term) {\n"
-SHOWS = "		site.show(shown)\n		if shown != nil && shown.Entry >= site.end {\n"
-RUNS = "			if err := site.run(raw); err != nil {\n				return err\n			}\n"
+OVER = "	return s.applied < updates || s.leaves && !s.gone\n"
+SERVED = "	shown, changed, first, term, taken := s.shown, s.changed, s.first, s.term, s.taken\n"
+SERVES = "	if shown == nil || shown.Entry < first || !s.lease.Lives(term) {\n"
+SHOWS = "		s.show(shown)\n		if shown != nil && shown.Entry >= s.end {\n"
+RUNS = "			if err := s.run(raw); err != nil {\n				return err\n			}\n"
 
 MISTAKES: Mistakes = {
     # The primary writes that sites told what is in the log, whether they did or not.
-    "reports_what_no_site_told": [("internal/epoch/turn.go", "		places := site.known()\n", "		places := core.updates\n")],
+    "reports_what_no_site_told": [("internal/epoch/turn.go", "		places := site.known()\n", "		places := c.updates\n")],
     # The client is told once the update has a number.
     "answers_before_it_settles": [
         (
             "internal/epoch/run.go",
-            "		core.waiting.push(asked)\n",
-            "		core.waiting.push(asked)\n		core.decide(asked, ackedText(place, core.epoch))\n",
+            "			c.waiting.push(asked)\n",
+            "			c.waiting.push(asked)\n			c.decide(asked, script.Answer{Place: c.updates, Epoch: c.epoch})\n",
         ),
-        ("internal/epoch/run.go", "		core.decide(core.waiting.pop(), ackedText(place, core.epoch))\n", "		core.waiting.pop()\n"),
+        ("internal/epoch/run.go", "	c.decide(c.waiting.pop(), script.Answer{Place: place, Epoch: c.epoch})\n", "	c.waiting.pop()\n"),
     ],
     # Each page that is read of the engine has all that is left, and no more time after a failure.
     "reads_all_at_once": [
-        ("internal/engine/read.go", "	count, most := engine.pages.next()\n", "	_, most := engine.pages.next()\n"),
+        ("internal/engine/read.go", "	count, most := e.pages.next()\n", "	_, most := e.pages.next()\n"),
         ("internal/engine/read.go", "clientv3.WithLimit(count), clientv3.WithRev(revision)", "clientv3.WithRev(revision)"),
         ("internal/engine/pages.go", "mostTime = 30 * time.Second", "mostTime = CallTime"),
     ],
@@ -35,43 +35,43 @@ MISTAKES: Mistakes = {
     "goes_on_after_another": [
         (
             "internal/primary/write.go",
-            "	for {\n		err := primary.config.Engine.Write(ctx, write)\n",
-            "	for {\n		if last, err := primary.config.Engine.Last(ctx, 1); err == nil {\n			write.Number = last + 1\n		}\n"
-            "		err := primary.config.Engine.Write(ctx, write)\n",
+            "	for {\n		err := p.config.Engine.Write(ctx, write)\n",
+            "	for {\n		if last, err := p.config.Engine.Last(ctx, 1); err == nil {\n			write.Number = last + 1\n		}\n"
+            "		err := p.config.Engine.Write(ctx, write)\n",
         ),
     ],
     # Answers are told before the entry is written that has them. A primary that dies then loses the requests.
     "takes_requests_before_it_writes": [
         (
             "internal/primary/write.go",
-            "		go func() { writing.landed <- writing.send(ctx, turn) }()\n",
-            "		writing.calls.tell(turn.Answers)\n"
-            "		go func() { time.Sleep(200 * time.Millisecond); writing.landed <- writing.send(ctx, turn) }()\n",
+            "		go func() { w.landed <- w.send(ctx, turn) }()\n",
+            "		w.calls.tell(turn.Answers)\n"
+            "		go func() { time.Sleep(200 * time.Millisecond); w.landed <- w.send(ctx, turn) }()\n",
         ),
     ],
     # The next epoch begins with the values that the last one began with.
     "begins_again_with_the_first_values": [
         ("internal/epoch/core.go", "	failure error\n", "	failure error\n	firsts string\n"),
-        ("internal/epoch/run.go", "	case script.Declare:\n", "	case script.Declare:\n		core.firsts += step.Text + \"\\n\"\n"),
-        ("internal/epoch/ending.go", "	core.Close()\n", "	core.Close()\n	core.firsts = \"\"\n"),
-        ("internal/epoch/ending.go", "	text, err := core.store.NextDeclarations()\n", "	text, err := core.firsts, error(nil)\n"),
+        ("internal/epoch/run.go", "	case script.Declare:\n", "	case script.Declare:\n		c.firsts += step.Words + \"\\n\"\n"),
+        ("internal/epoch/ending.go", "	c.Close()\n", "	c.Close()\n	c.firsts = \"\"\n"),
+        ("internal/epoch/ending.go", "	text, err := c.store.NextDeclarations()\n", "	text, err := c.firsts, error(nil)\n"),
     ],
     # The next epoch begins once all is acknowledged.
-    "goes_over_before_all_have_told": [("internal/epoch/sites.go", OVER, "	return site.leaves && !site.gone\n")],
+    "goes_over_before_all_have_told": [("internal/epoch/sites.go", OVER, "	return s.leaves && !s.gone\n")],
     # The next epoch begins while a process of a site that is taken out may still serve readers.
-    "goes_over_before_a_site_is_gone": [("internal/epoch/sites.go", OVER, "	return site.applied < updates\n")],
+    "goes_over_before_a_site_is_gone": [("internal/epoch/sites.go", OVER, "	return s.applied < updates\n")],
     # What the operator asked for once is done twice.
     "begins_one_epoch_after_another": [
         (
             "internal/epoch/ending.go",
-            "	core.clients, core.carry, core.wish = core.carry.clients, nil, nil\n",
-            "	core.clients, core.carry = core.carry.clients, nil\n"
-            "	if core.wish != nil && core.wish.From < core.epoch-1 {\n		core.wish = nil\n	}\n",
+            "	c.clients, c.carry, c.wish = c.carry.clients, nil, nil\n",
+            "	c.clients, c.carry = c.carry.clients, nil\n"
+            "	if c.wish != nil && c.wish.From < c.epoch-1 {\n		c.wish = nil\n	}\n",
         ),
     ],
     # The next epoch waits for a site of a fleet that is away.
     "waits_for_a_fleet_that_is_away": [
-        ("internal/epoch/sites.go", "missing <= Near && site.wasHeard && now-site.heard < Away\n", "missing <= Near\n"),
+        ("internal/epoch/sites.go", "missing <= Near && s.wasHeard && now-s.heard < Away\n", "missing <= Near\n"),
     ],
     # Who asks under a number that is before the last one waits for ever.
     "tells_nothing_of_late_requests": [
@@ -83,12 +83,12 @@ MISTAKES: Mistakes = {
     ],
     # A site shows old values to readers while it applies the script from the beginning.
     "serves_before_it_has_caught_up": [
-        ("internal/site/read.go", SERVED, "	shown, changed, term, taken := site.shown, site.changed, site.term, site.taken\n"),
+        ("internal/site/read.go", SERVED, "	shown, changed, term, taken := s.shown, s.changed, s.term, s.taken\n"),
         ("internal/site/read.go", SERVES, "	if shown == nil {\n"),
         (
             "internal/site/site.go",
             RUNS,
-            RUNS + "			if early, err := site.replica.Show(); err == nil {\n				site.show(early)\n			}\n",
+            RUNS + "			if early, err := s.replica.Show(); err == nil {\n				s.show(early)\n			}\n",
         ),
     ],
     # A site tells its place, and shows it to readers a little later.
@@ -96,7 +96,7 @@ MISTAKES: Mistakes = {
         (
             "internal/site/site.go",
             SHOWS,
-            "		if shown != nil && site.lease.Held() {\n			site.tell(ctx, site.placeOf(shown))\n"
+            "		if shown != nil && s.lease.Held() {\n			s.tell(ctx, s.placeOf(shown))\n"
             "			time.Sleep(300 * time.Millisecond)\n		}\n" + SHOWS,
         ),
     ],
@@ -104,19 +104,20 @@ MISTAKES: Mistakes = {
     "skips_what_came_while_it_was_away": [
         (
             "internal/site/site.go",
-            '		site.config.Log.Warn("engine-away", "why", err)\n',
-            "		if site.replica != nil {\n			site.replica.entry++\n		}\n",
+            "		if err = s.follower.Heed(following, err, s.forget); err != nil {\n",
+            "		if engine.IsAway(err) && s.replica != nil {\n			s.replica.entry++\n		}\n"
+            "		if err = s.follower.Heed(following, err, s.forget); err != nil {\n",
         ),
     ],
     # A site that is taken out goes on, whatever the script and the primary say.
     "serves_after_it_was_taken_out": [
         ("internal/site/site.go", " || errors.Is(err, epoch.ErrNoSite)\n", "\n"),
-        ("internal/site/replica.go", "			delete(replica.sites, step.Name)\n", ""),
+        ("internal/site/replica.go", "			delete(r.sites, step.Site)\n", ""),
         (
             "internal/site/replica.go",
-            "	replica.epoch, replica.place, replica.told, replica.sites, replica.limits = entry.Epoch, 0, 0, map[string]bool{}, []string{}\n",
-            "	replica.epoch, replica.place, replica.told, replica.limits = entry.Epoch, 0, 0, []string{}\n"
-            "	if replica.sites == nil {\n		replica.sites = map[string]bool{}\n	}\n",
+            "	r.epoch, r.place, r.told, r.sites, r.limits = entry.Epoch, 0, 0, map[string]bool{}, []string{}\n",
+            "	r.epoch, r.place, r.told, r.limits = entry.Epoch, 0, 0, []string{}\n"
+            "	if r.sites == nil {\n		r.sites = map[string]bool{}\n	}\n",
         ),
     ],
     # A process relies on its lease for longer than the engine keeps it.
@@ -125,18 +126,18 @@ MISTAKES: Mistakes = {
     "tells_without_the_lease": [
         (
             "internal/site/site.go",
-            "		now := site.now()\n",
-            "		now := site.now()\n		site.lock.Lock()\n		now.shown = site.shown\n		site.lock.Unlock()\n",
+            "		now := s.now()\n",
+            "		now := s.now()\n		s.lock.Lock()\n		now.shown = s.shown\n		s.lock.Unlock()\n",
         ),
     ],
     # Other changes under a number that was taken have the answer to those before.
     "answers_other_changes": [("internal/epoch/turn.go", "	case script.DigestOf(request.Changes) != last.digest:\n", "	case false:\n")],
     # A primary stands by though it was started with other settings.
     "stands_by_with_other_settings": [
-        ("internal/primary/standby.go", "			if err = primary.agrees(core); err != nil {\n", "			if false {\n"),
+        ("internal/primary/standby.go", "			if err = p.agrees(core); err != nil {\n", "			if false {\n"),
     ],
     # A lease that was given back is taken up again, before the engine hears of that.
-    "takes_up_what_it_gave_back": [("internal/engine/lease.go", "	if id == lease.given {\n", "	if false {\n")],
+    "takes_up_what_it_gave_back": [("internal/engine/lease.go", "	if id == l.given {\n", "	if false {\n")],
     # A site serves readers before anybody has taken a place of it, and goes on though it is told that it is no site.
     "serves_though_nobody_lists_it": [
         ("internal/site/read.go", "	if !now.isTaken {\n", "	if false {\n"),
@@ -144,11 +145,11 @@ MISTAKES: Mistakes = {
     ],
     # A fleet tells of the sites that it lists, whoever else serves readers as one of it.
     "tells_without_a_site_that_serves": [
-        ("internal/fleet/fleet.go", "fleet.looked && len(fleet.unlisted) == 0\n", "true\n"),
+        ("internal/fleet/fleet.go", "f.looked && len(f.unlisted) == 0\n", "true\n"),
     ],
     # A turn counts whatever comes, and is written unread.
     "writes_what_nobody_reads": [
         ("internal/epoch/turn.go", "	turnCounts = 200_000\n", "	turnCounts = 1 << 40\n"),
-        ("internal/epoch/turn.go", "	if err := script.Check(turn.Text); err != nil {\n", "	if err := script.Check(nil); false {\n"),
+        ("internal/epoch/turn.go", "	if err := script.Check(tr.Text); err != nil {\n", "	if err := script.Check(nil); false {\n"),
     ],
 }

@@ -36,7 +36,7 @@ def edit(folder: Path, edits: list[Edit]) -> None:
 
 def build(sources: Path, library: Path, to: Path, edits: list[Edit]) -> tuple[Path, Path]:
     """The program ordup-node, of a copy of the sources with these edits, and the one of the next version."""
-    shutil.copytree(sources / NODE, to / NODE)
+    shutil.copytree(sources / NODE, to / NODE, symlinks=True)
     for folder in ("clients/go", "clients/rust"):
         shutil.copytree(sources / folder, to / folder)
     edit(to / NODE, edits)

@@ -17,9 +17,9 @@ import (
 	"sync/atomic"
 	"time"
 
-	"ordup-node/internal/engine"
-	"ordup-node/internal/logs"
-	"ordup-node/internal/script"
+	"ordup.dev/node/internal/engine"
+	"ordup.dev/node/internal/logs"
+	"ordup.dev/node/internal/script"
 )
 
 // sync has a file on the disk, or the names of a folder.
@@ -42,11 +42,11 @@ type Keeper struct {
 	Ended <-chan struct{}
 	// looked are the archives whose files this process has written or read, of epochs that are still in the engine.
 	looked  map[engine.Archive]bool
-	waiting int64
+	waiting atomic.Int64
 }
 
 // Waiting is how many epochs have ended and are still in the engine, as of the last look.
-func (keeper *Keeper) Waiting() int64 { return atomic.LoadInt64(&keeper.waiting) }
+func (k *Keeper) Waiting() int64 { return k.waiting.Load() }
 
 // NameOf is the name of the file of an epoch.
 func NameOf(epoch int64) string { return fmt.Sprintf("epoch-%d.ordup", epoch) }
@@ -56,12 +56,12 @@ func NameOf(epoch int64) string { return fmt.Sprintf("epoch-%d.ordup", epoch) }
 func MakeFolder(folder string) error { return os.MkdirAll(folder, 0o750) }
 
 // Run archives what has ended, and what ends, until the context ends. Then it closes its engine.
-func (keeper *Keeper) Run(ctx context.Context) {
-	defer keeper.Engine.Close()
+func (k *Keeper) Run(ctx context.Context) {
+	defer k.Engine.Close()
 	for ctx.Err() == nil {
-		waits, err := keeper.Pass(ctx)
+		waits, err := k.Pass(ctx)
 		if err != nil && ctx.Err() == nil {
-			keeper.Log.Warn("archive", "why", err)
+			k.Log.Warn("archive", "why", err)
 		}
 		var again <-chan time.Time
 		if waits || err != nil {
@@ -69,7 +69,7 @@ func (keeper *Keeper) Run(ctx context.Context) {
 		}
 		select {
 		case <-ctx.Done():
-		case <-keeper.Ended:
+		case <-k.Ended:
 		case <-again:
 		}
 	}
@@ -77,95 +77,100 @@ func (keeper *Keeper) Run(ctx context.Context) {
 
 // Pass archives each epoch that has ended and is still in the engine, and takes it out of there once enough hosts have it. It returns
 // whether one of them waits for another host.
-func (keeper *Keeper) Pass(ctx context.Context) (waits bool, err error) {
-	last, end, err := keeper.Engine.Epoch(ctx)
+func (k *Keeper) Pass(ctx context.Context) (waits bool, err error) {
+	last, end, err := k.Engine.Epoch(ctx)
 	if err != nil {
-		return false, err
+		return false, fmt.Errorf("read the last epoch: %w", err)
 	}
-	from, err := keeper.Engine.First(ctx)
-	if err != nil || from == 0 {
-		return false, err
+	from, err := k.Engine.First(ctx)
+	if err != nil {
+		return false, fmt.Errorf("read the first entry: %w", err)
 	}
-	for own := range keeper.looked {
+	if from == 0 {
+		return false, nil
+	}
+	for own := range k.looked {
 		if own.Before <= from {
-			delete(keeper.looked, own)
+			delete(k.looked, own)
 		}
 	}
 	left := int64(0)
 	for from < end {
-		before, removed, err := keeper.passOne(ctx, from, end)
+		before, removed, err := k.passOne(ctx, from, end)
 		if err != nil {
 			if !engine.IsAway(err) {
-				atomic.StoreInt64(&keeper.waiting, left+keeper.stuck(ctx, from, last))
+				k.waiting.Store(left + k.stuck(ctx, from, last))
 			}
-			return false, err
+			return false, fmt.Errorf("archive the epoch from the entry %d on: %w", from, err)
 		}
-		if from = before; !removed {
+		from = before
+		if !removed {
 			left++
 		}
 	}
-	atomic.StoreInt64(&keeper.waiting, left)
+	k.waiting.Store(left)
 	return left > 0, nil
 }
 
 // passOne does it for the epoch that begins with an entry. It returns the first entry behind the epoch, and whether it left the engine.
-func (keeper *Keeper) passOne(ctx context.Context, from, end int64) (before int64, removed bool, err error) {
-	archives, err := keeper.Engine.Archives(ctx)
+func (k *Keeper) passOne(ctx context.Context, from, end int64) (before int64, removed bool, err error) {
+	archives, err := k.Engine.Archives(ctx)
 	if err != nil {
 		return 0, false, err
 	}
-	epoch, own, err := keeper.own(ctx, archives, from, end)
+	epoch, own, err := k.own(ctx, archives, from, end)
 	if err != nil {
 		return 0, false, err
 	}
-	removed, err = keeper.remove(ctx, epoch, own)
+	removed, err = k.remove(ctx, epoch, own)
 	return own.Before, removed, err
 }
 
 // stuck is how many epochs before the last one wait behind an entry whose epoch cannot be archived, as far as the entry tells.
-func (keeper *Keeper) stuck(ctx context.Context, from, last int64) int64 {
+func (k *Keeper) stuck(ctx context.Context, from, last int64) int64 {
 	epoch := int64(0)
-	text, _, _ := keeper.Engine.Entry(ctx, from)
-	if fmt.Sscanf(string(text), "ordup-node 1 epoch %d ", &epoch); epoch < 1 || epoch >= last {
+	text, _, _ := k.Engine.Entry(ctx, from)
+	count, _ := fmt.Sscanf(string(text), "ordup-node 1 epoch %d ", &epoch)
+	if count != 1 || epoch < 1 || epoch >= last {
 		return 1
 	}
 	return last - epoch
 }
 
 // own is the archive of this host that begins with an entry. It is written, if it is not there yet.
-func (keeper *Keeper) own(ctx context.Context, archives map[int64]map[string]engine.Archive, from, end int64) (int64, engine.Archive, error) {
+func (k *Keeper) own(ctx context.Context, archives map[int64]map[string]engine.Archive, from, end int64) (int64, engine.Archive, error) {
 	for epoch, hosts := range archives {
-		if own, isThere := hosts[keeper.Host]; isThere && own.From == from && own.Before <= end && from < own.Before {
-			if keeper.looked[own] {
+		if own, isThere := hosts[k.Host]; isThere && own.From == from && own.Before <= end && from < own.Before {
+			if k.looked[own] {
 				return epoch, own, nil
 			}
-			if digest, err := digestOf(filepath.Join(keeper.Folder, NameOf(epoch))); err == nil && digest == own.Digest {
-				keeper.looks(own)
+			if digest, err := digestOf(filepath.Join(k.Folder, NameOf(epoch))); err == nil && digest == own.Digest {
+				k.looks(own)
 				return epoch, own, nil
 			}
 		}
 	}
-	epoch, own, err := keeper.write(ctx, from, end)
+	epoch, own, err := k.write(ctx, from, end)
 	if err == nil {
-		err = keeper.Engine.PutArchive(ctx, epoch, keeper.Host, own)
+		err = k.Engine.PutArchive(ctx, epoch, k.Host, own)
 	}
 	if err == nil {
-		keeper.looks(own)
-		keeper.Log.Info("archived", "epoch", epoch, "entries", own.Before-own.From, "digest", own.Digest[:16])
+		k.looks(own)
+		k.Log.Info("archived", "epoch", epoch, "entries", own.Before-own.From, "digest", own.Digest[:16])
 	}
 	return epoch, own, err
 }
 
-func (keeper *Keeper) looks(own engine.Archive) {
-	if keeper.looked == nil {
-		keeper.looked = map[engine.Archive]bool{}
+func (k *Keeper) looks(own engine.Archive) {
+	if k.looked == nil {
+		k.looked = map[engine.Archive]bool{}
 	}
-	keeper.looked[own] = true
+	k.looked[own] = true
 }
 
 // remove takes an epoch out of the engine, if enough hosts have the same archive as this one.
-func (keeper *Keeper) remove(ctx context.Context, epoch int64, own engine.Archive) (bool, error) {
-	archives, err := keeper.Engine.Archives(ctx)
+func (k *Keeper) remove(ctx context.Context, epoch int64, own engine.Archive) (bool, error) {
+	archives, err := k.Engine.Archives(ctx)
 	if err != nil {
 		return false, err
 	}
@@ -174,32 +179,32 @@ func (keeper *Keeper) remove(ctx context.Context, epoch int64, own engine.Archiv
 		if archive == own {
 			hosts = append(hosts, host)
 		} else {
-			keeper.Log.Warn("archives-differ", "epoch", epoch, "host", host, "own", own.Digest, "other", archive.Digest)
+			k.Log.Warn("archives-differ", "epoch", epoch, "host", host, "own", own.Digest, "other", archive.Digest)
 		}
 	}
-	if len(hosts) < keeper.Copies {
+	if len(hosts) < k.Copies {
 		return false, nil
 	}
 	sort.Strings(hosts)
-	removed, err := keeper.Engine.RemoveEpoch(ctx, epoch, hosts, own)
+	removed, err := k.Engine.RemoveEpoch(ctx, epoch, hosts, own)
 	if removed {
-		keeper.Log.Info("removed", "epoch", epoch, "hosts", len(hosts))
+		k.Log.Info("removed", "epoch", epoch, "hosts", len(hosts))
 	}
 	return removed, err
 }
 
 // write writes the archive of the epoch that begins with an entry, whole or not at all.
-func (keeper *Keeper) write(ctx context.Context, from, end int64) (epoch int64, own engine.Archive, err error) {
-	if err = MakeFolder(keeper.Folder); err != nil {
+func (k *Keeper) write(ctx context.Context, from, end int64) (epoch int64, own engine.Archive, err error) {
+	if err = MakeFolder(k.Folder); err != nil {
 		return 0, own, err
 	}
-	part, err := os.CreateTemp(keeper.Folder, "epoch-*.part")
+	part, err := os.CreateTemp(k.Folder, "epoch-*.part")
 	if err != nil {
 		return 0, own, err
 	}
 	defer os.Remove(part.Name())
 	defer part.Close()
-	epoch, own, err = keeper.copy(ctx, part, from, end)
+	epoch, own, err = k.copy(ctx, part, from, end)
 	if err != nil {
 		return 0, own, err
 	}
@@ -209,18 +214,18 @@ func (keeper *Keeper) write(ctx context.Context, from, end int64) (epoch int64, 
 	if err = os.Chmod(part.Name(), 0o640); err != nil {
 		return 0, own, err
 	}
-	return epoch, own, keeper.name(part.Name(), filepath.Join(keeper.Folder, NameOf(epoch)), own.Digest)
+	return epoch, own, k.name(part.Name(), filepath.Join(k.Folder, NameOf(epoch)), own.Digest)
 }
 
 // name gives a file that is on the disk its name, and has that on the disk too. Another file of this name is not written over.
-func (keeper *Keeper) name(part, name, digest string) error {
+func (k *Keeper) name(part, name, digest string) error {
 	if before, err := digestOf(name); err == nil && before != digest {
 		return fmt.Errorf("%s is there already, and of another script: move it away", name)
 	}
 	if err := os.Rename(part, name); err != nil {
 		return err
 	}
-	folder, err := os.Open(keeper.Folder)
+	folder, err := os.Open(k.Folder)
 	if err != nil {
 		return err
 	}
@@ -229,12 +234,13 @@ func (keeper *Keeper) name(part, name, digest string) error {
 }
 
 // copy copies the entries of one epoch, all of one revision.
-func (keeper *Keeper) copy(ctx context.Context, to io.Writer, from, end int64) (epoch int64, own engine.Archive, err error) {
+func (k *Keeper) copy(ctx context.Context, to io.Writer, from, end int64) (epoch int64, own engine.Archive, err error) {
 	sum, revision, next := sha256.New(), int64(0), from
 	lines := bufio.NewWriterSize(io.MultiWriter(to, sum), 1<<16)
 	var raws []engine.Raw
 	for isSame := true; isSame && next < end; {
-		if raws, _, revision, err = keeper.Engine.Entries(ctx, next, revision); err != nil {
+		raws, _, revision, err = k.Engine.Entries(ctx, next, revision)
+		if err != nil {
 			return 0, own, err
 		}
 		if len(raws) == 0 {
@@ -250,10 +256,12 @@ func (keeper *Keeper) copy(ctx context.Context, to io.Writer, from, end int64) (
 			case epoch == 0:
 				epoch = entry.Epoch
 			}
-			if isSame = entry.Epoch == epoch && next < end; !isSame {
+			isSame = entry.Epoch == epoch && next < end
+			if !isSame {
 				break
 			}
-			if _, err = lines.Write(entry.AppendArchive(nil, next)); err != nil {
+			_, err = lines.Write(entry.AppendArchive(nil, next))
+			if err != nil {
 				return 0, own, err
 			}
 			next++

@@ -9,10 +9,10 @@ import (
 	"strings"
 	"testing"
 
-	"ordup-node/internal/archive"
-	"ordup-node/internal/engine"
-	"ordup-node/internal/etcdtest"
-	"ordup-node/internal/script"
+	"ordup.dev/node/internal/archive"
+	"ordup.dev/node/internal/engine"
+	"ordup.dev/node/internal/etcdtest"
+	"ordup.dev/node/internal/script"
 )
 
 // write writes a script of some epochs, with entries of two steps.
@@ -20,7 +20,7 @@ func write(t *testing.T, to *engine.Engine, epochs ...int64) {
 	for at, epoch := range epochs {
 		number := int64(at + 1)
 		entry := script.Entry{Epoch: epoch, Ordup: "1", Writer: "p1", Steps: []script.Step{
-			{Kind: script.Ask, Name: "ann", Number: number, Text: "add:tea:1"}, {Kind: script.Settle, Count: 1}}}
+			{Kind: script.Ask, Client: "ann", Number: number, Words: "add:tea:1"}, {Kind: script.Settle, Count: 1}}}
 		write := &engine.Write{Number: number, Text: entry.Text()}
 		if at == 0 || epochs[at-1] != epoch {
 			write.Epoch, write.First = epoch, number
@@ -113,7 +113,8 @@ func TestAnArchiveIsOnTheDiskFirst(t *testing.T) {
 			what += " of an archive"
 		}
 		archives, err := own.Archives(context.Background())
-		if synced = append(synced, what); err != nil || len(archives) > 0 || what == fails {
+		synced = append(synced, what)
+		if err != nil || len(archives) > 0 || what == fails {
 			return errors.New("the disk fails")
 		}
 		return nil
@@ -142,10 +143,12 @@ func TestAnEpochThatCannotBeArchivedIsCounted(t *testing.T) {
 		number int
 		wants  int64
 	}{{2, 3}, {1, 1}} {
-		members.Put(fmt.Sprintf("script/%012d", row.number), "by hand")
-		if _, err := keeper.Pass(context.Background()); err == nil || keeper.Waiting() != row.wants {
-			t.Error(row, err, keeper.Waiting())
-		}
+		t.Run(fmt.Sprint("the entry ", row.number), func(t *testing.T) {
+			members.Put(fmt.Sprintf("script/%012d", row.number), "by hand")
+			if _, err := keeper.Pass(context.Background()); err == nil || keeper.Waiting() != row.wants {
+				t.Error(row, err, keeper.Waiting())
+			}
+		})
 	}
 }
 

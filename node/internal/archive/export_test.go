@@ -10,4 +10,4 @@ func SyncBy(other func(*os.File) error) (undo func()) {
 }
 
 // Looked is how many archives the keeper knows to be as it says.
-func (keeper *Keeper) Looked() int { return len(keeper.looked) }
+func (k *Keeper) Looked() int { return len(k.looked) }

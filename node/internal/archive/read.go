@@ -8,7 +8,7 @@ import (
 	"strconv"
 	"strings"
 
-	"ordup-node/internal/script"
+	"ordup.dev/node/internal/script"
 )
 
 // header begins the first line of an entry in an archive.
@@ -35,7 +35,8 @@ func Read(from io.Reader, take func(int64, *script.Entry) error) error {
 			}
 			text = text[:0]
 		}
-		if text = append(text, line...); isEnd {
+		text = append(text, line...)
+		if isEnd {
 			if len(line) > 0 {
 				return fmt.Errorf("line %d is not whole", number)
 			}

@@ -7,17 +7,17 @@ import (
 	"strings"
 	"testing"
 
-	"ordup-node/internal/archive"
-	"ordup-node/internal/script"
+	"ordup.dev/node/internal/archive"
+	"ordup.dev/node/internal/script"
 )
 
 func TestAnArchiveIsReadAsItWasWritten(t *testing.T) {
 	entries := []*script.Entry{
 		{Epoch: 1, Ordup: "1", Writer: "p1", Steps: []script.Step{
-			{Kind: script.Begin, Settings: &script.Settings{Every: 1, Remembers: 1, Origin: "a", Ordup: "1", Began: script.Began{Every: 1, Remembers: 1, Origin: "a"}}}, {Kind: script.Declare, Text: "start"}}},
+			{Kind: script.Begin, Settings: &script.Settings{Every: 1, Remembers: 1, Origin: "a", Ordup: "1", Began: script.Began{Every: 1, Remembers: 1, Origin: "a"}}}, {Kind: script.Declare, Words: "start"}}},
 		{Epoch: 1, Ordup: "1", Writer: "p2", Steps: []script.Step{}},
-		{Epoch: 1, Ordup: "1", Writer: "p2", Steps: []script.Step{{Kind: script.Tell, Name: "south", Count: 3},
-			{Kind: script.Ask, Name: "ann", Number: 7, Text: "# ordup-node 1"}, {Kind: script.Settle, Count: 2}}},
+		{Epoch: 1, Ordup: "1", Writer: "p2", Steps: []script.Step{{Kind: script.Tell, Site: "south", Count: 3},
+			{Kind: script.Ask, Client: "ann", Number: 7, Words: "# ordup-node 1"}, {Kind: script.Settle, Count: 2}}},
 	}
 	text := []byte{}
 	for at, entry := range entries {

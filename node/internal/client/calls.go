@@ -7,54 +7,62 @@ import (
 	"fmt"
 	"net/http"
 	"net/url"
-	"strings"
 	"time"
 
-	"ordup-node/internal/epoch"
-	"ordup-node/internal/wire"
+	"ordup.dev/node/internal/epoch"
+	"ordup.dev/node/internal/wire"
 )
 
 // Update asks for an update until there is an answer, or the context ends. What the store refuses is a *wire.Error.
-func (client *Client) Update(ctx context.Context, update wire.Update) (acked wire.Acked, err error) {
-	err = client.post(ctx, wire.UpdatePath+waiting(waitIn(ctx)), update, &acked)
-	return acked, err
+func (c *Client) Update(ctx context.Context, update wire.Update) (wire.Acked, error) {
+	return posted[wire.Acked](ctx, c, wire.UpdatePath+waiting(waitIn(ctx)), update)
 }
 
 // Next asks for the next epoch until it has begun, or the context ends.
-func (client *Client) Next(ctx context.Context, next wire.Next) (begun wire.Begun, err error) {
-	err = client.post(ctx, wire.NextPath+waiting(waitIn(ctx)), next, &begun)
-	return begun, err
+func (c *Client) Next(ctx context.Context, next wire.Next) (wire.Begun, error) {
+	return posted[wire.Begun](ctx, c, wire.NextPath+waiting(waitIn(ctx)), next)
 }
 
 // Epoch asks for the epoch.
-func (client *Client) Epoch(ctx context.Context) (begun wire.Begun, err error) {
-	err = client.ask(ctx, http.MethodGet, wire.EpochPath, nil, &begun)
-	return begun, err
+func (c *Client) Epoch(ctx context.Context) (wire.Begun, error) {
+	return got[wire.Begun](ctx, c, wire.EpochPath)
 }
 
 // Value reads a value. Where the site does not get in time to what was seen, that is a *wire.Error.
-func (client *Client) Value(ctx context.Context, object, seen string, wait time.Duration) (value wire.Value, err error) {
-	path := wire.ValuePath + url.PathEscape(object) + waiting(wait) + "&seen=" + url.QueryEscape(seen)
-	err = client.ask(ctx, http.MethodGet, path, nil, &value)
-	return value, err
+func (c *Client) Value(ctx context.Context, object, seen string, wait time.Duration) (wire.Value, error) {
+	return got[wire.Value](ctx, c, wire.ValuePath+url.PathEscape(object)+waiting(wait)+"&seen="+url.QueryEscape(seen))
 }
 
 // Values reads all values.
-func (client *Client) Values(ctx context.Context, seen string, wait time.Duration) (values wire.Values, err error) {
-	path := wire.ValuesPath + waiting(wait) + "&seen=" + url.QueryEscape(seen)
-	err = client.ask(ctx, http.MethodGet, path, nil, &values)
-	return values, err
+func (c *Client) Values(ctx context.Context, seen string, wait time.Duration) (wire.Values, error) {
+	return got[wire.Values](ctx, c, wire.ValuesPath+waiting(wait)+"&seen="+url.QueryEscape(seen))
+}
+
+// got asks by GET for an answer of a type, as ask does.
+func got[T any](ctx context.Context, by *Client, path string) (answer T, err error) {
+	err = by.ask(ctx, http.MethodGet, path, nil, &answer)
+	return answer, err
+}
+
+// posted asks by POST for one.
+func posted[T any](ctx context.Context, by *Client, path string, value any) (answer T, err error) {
+	body, err := json.Marshal(value)
+	if err != nil {
+		return answer, fmt.Errorf("ask at %s: %w", path, err)
+	}
+	err = by.ask(ctx, http.MethodPost, path, body, &answer)
+	return answer, err
 }
 
 // Tell tells a place, at each address once.
-func (client *Client) Tell(ctx context.Context, place epoch.Place) error {
+func (c *Client) Tell(ctx context.Context, place epoch.Place) error {
 	body, err := json.Marshal(wire.Place(place))
 	if err != nil {
 		return err
 	}
-	for try := 0; try <= len(client.config.Addresses) && ctx.Err() == nil; try++ {
+	for try := 0; try <= len(c.config.Addresses) && ctx.Err() == nil; try++ {
 		limited, cancel := context.WithTimeout(ctx, tellTime)
-		err = client.try(limited, client.address(), http.MethodPost, wire.PlacePath+waiting(tellTime), body, &wire.Done{})
+		err = c.try(limited, c.address(), http.MethodPost, wire.PlacePath+waiting(tellTime), body, &wire.Done{})
 		cancel()
 		if err == nil || isForGood(err) {
 			return refusalOf(err, place)
@@ -69,6 +77,15 @@ func (client *Client) Tell(ctx context.Context, place epoch.Place) error {
 // tellTime is how long one address may take for a place.
 const tellTime = time.Second
 
+// A refusal of a place says what the primary said, and is the error that it had there.
+type refusal struct {
+	told *wire.Error
+	is   error
+}
+
+func (r *refusal) Error() string { return r.told.Message }
+func (r *refusal) Unwrap() error { return r.is }
+
 // refusalOf gives the errors of a place the types that they had at the primary.
 func refusalOf(err error, place epoch.Place) error {
 	var told *wire.Error
@@ -76,22 +93,14 @@ func refusalOf(err error, place epoch.Place) error {
 		return err
 	}
 	switch told.Name {
-	case "CannotBe":
+	case wire.CannotBe:
 		return &epoch.CannotBeError{Place: place, Updates: told.Updates}
-	case "OtherScript":
-		return epoch.ErrOtherScript
-	case "NoSite":
-		return fmt.Errorf("%w%s", epoch.ErrNoSite, strings.TrimPrefix(told.Message, epoch.ErrNoSite.Error()))
+	case wire.OtherScript:
+		return &refusal{told, epoch.ErrOtherScript}
+	case wire.NoSite:
+		return &refusal{told, epoch.ErrNoSite}
 	}
 	return err
-}
-
-func (client *Client) post(ctx context.Context, path string, value, to interface{}) error {
-	body, err := json.Marshal(value)
-	if err != nil {
-		return err
-	}
-	return client.ask(ctx, http.MethodPost, path, body, to)
 }
 
 // waitIn is how long a server is asked to wait for an answer: less than there is time, so that it can say why there is none.

@@ -18,8 +18,8 @@ import (
 	"sync"
 	"time"
 
-	"ordup-node/internal/exit"
-	"ordup-node/internal/wire"
+	"ordup.dev/node/internal/exit"
+	"ordup.dev/node/internal/wire"
 )
 
 const (
@@ -44,7 +44,9 @@ type Config struct {
 type Client struct {
 	config Config
 	http   *http.Client
-	lock   sync.Mutex
+
+	// What stands below lock is under it.
+	lock sync.Mutex
 	// Who is asked first: one of the addresses, or the one that an answer named.
 	at    int
 	named string
@@ -81,12 +83,12 @@ func HTTP(secure *tls.Config) *http.Client {
 }
 
 // Answer asks, and reads the answer. One that is an error is a *wire.Error.
-func Answer(by *http.Client, request *http.Request, to interface{}) error {
+func Answer(by *http.Client, request *http.Request, to any) error {
 	_, err := answer(by, request, to)
 	return err
 }
 
-func answer(by *http.Client, request *http.Request, to interface{}) (writer string, err error) {
+func answer(by *http.Client, request *http.Request, to any) (writer string, err error) {
 	answer, err := by.Do(request)
 	if err != nil {
 		return "", err
@@ -94,11 +96,14 @@ func answer(by *http.Client, request *http.Request, to interface{}) (writer stri
 	defer answer.Body.Close()
 	body, err := io.ReadAll(io.LimitReader(answer.Body, wire.MostAnswer+1))
 	if err != nil {
-		return "", err
+		return "", fmt.Errorf("read the answer of %s: %w", request.URL.Host, err)
 	}
 	writer = answer.Header.Get(wire.WriterHeader)
 	if answer.StatusCode == http.StatusOK {
-		return writer, json.Unmarshal(body, to)
+		if err = json.Unmarshal(body, to); err != nil {
+			return writer, fmt.Errorf("read the answer of %s: %w", request.URL.Host, err)
+		}
+		return writer, nil
 	}
 	told := &wire.Error{}
 	if json.Unmarshal(body, told) != nil || told.Name == "" {
@@ -111,31 +116,24 @@ func answer(by *http.Client, request *http.Request, to interface{}) (writer stri
 // isForGood is whether an error is the same wherever and whenever it is asked again.
 func isForGood(err error) bool {
 	var told *wire.Error
-	if !errors.As(err, &told) {
-		return false
-	}
-	switch told.Name {
-	case "NotWriter", "NotServing", "NotYet", "Busy", "NoAnswer", "TooSlow", "Failed", "Full":
-		return false
-	}
-	return true
+	return errors.As(err, &told) && told.Name.Again() == wire.Never
 }
 
 // address is who is asked now.
-func (client *Client) address() string {
-	client.lock.Lock()
-	defer client.lock.Unlock()
-	if client.named != "" {
-		return client.named
+func (c *Client) address() string {
+	c.lock.Lock()
+	defer c.lock.Unlock()
+	if c.named != "" {
+		return c.named
 	}
-	return client.config.Addresses[client.at]
+	return c.config.Addresses[c.at]
 }
 
 // learn has an address asked from now on.
-func (client *Client) learn(address string) {
-	client.lock.Lock()
-	defer client.lock.Unlock()
-	client.named = address
+func (c *Client) learn(address string) {
+	c.lock.Lock()
+	defer c.lock.Unlock()
+	c.named = address
 }
 
 // mayBeAsked is whether an answer of one address may name another one. One of another scheme is not asked, since it would get the token.
@@ -145,51 +143,51 @@ func mayBeAsked(address, named string) bool {
 }
 
 // fail has the next call begin elsewhere. Where the one that an address named does not answer, that is the next address.
-func (client *Client) fail(address string) {
-	client.lock.Lock()
-	defer client.lock.Unlock()
-	if client.named == address || client.named == "" && client.config.Addresses[client.at] == address {
-		client.named, client.at = "", (client.at+1)%len(client.config.Addresses)
+func (c *Client) fail(address string) {
+	c.lock.Lock()
+	defer c.lock.Unlock()
+	if c.named == address || c.named == "" && c.config.Addresses[c.at] == address {
+		c.named, c.at = "", (c.at+1)%len(c.config.Addresses)
 	}
 }
 
 // try asks one address.
-func (client *Client) try(ctx context.Context, address, method, path string, body []byte, to interface{}) error {
+func (c *Client) try(ctx context.Context, address, method, path string, body []byte, to any) error {
 	request, err := http.NewRequestWithContext(ctx, method, address+path, bytes.NewReader(body))
 	if err != nil {
-		return err
+		return fmt.Errorf("ask %s: %w", address, err)
 	}
 	if body != nil {
 		request.Header.Set("Content-Type", "application/json")
 	}
-	if client.config.Token != nil {
-		request.Header.Set("Authorization", "Bearer "+client.config.Token())
+	if c.config.Token != nil {
+		request.Header.Set("Authorization", "Bearer "+c.config.Token())
 	}
-	writer, err := answer(client.http, request, to)
+	writer, err := answer(c.http, request, to)
 	var told *wire.Error
 	if errors.As(err, &told) && told.Writer != "" {
 		writer = told.Writer
 	}
 	isNamed := writer != address && mayBeAsked(address, writer)
 	switch {
-	case isNamed && (err == nil || isForGood(err) || told != nil && told.Name == "NotWriter"):
-		client.learn(writer)
+	case isNamed && (err == nil || isForGood(err) || told != nil && told.Name == wire.NotWriter):
+		c.learn(writer)
 	case err == nil || isForGood(err):
-		client.learn(address)
-	case told != nil && (told.Name == "Busy" || told.Name == "NotYet" || told.Name == "Full"):
-		// It is the right one, and has an answer later.
+		c.learn(address)
+	case told != nil && told.Name.Again() == wire.Here:
+		// It has an answer later.
 	default:
-		client.fail(address)
+		c.fail(address)
 	}
 	return err
 }
 
 // ask asks until there is an answer for good, or the context ends. Then the error has the last reason.
-func (client *Client) ask(ctx context.Context, method, path string, body []byte, to interface{}) error {
+func (c *Client) ask(ctx context.Context, method, path string, body []byte, to any) error {
 	pause, last := leastPause, error(nil)
 	for try := 0; ; try++ {
 		limited, cancel := context.WithTimeout(ctx, tryTime)
-		err := client.try(limited, client.address(), method, path, body, to)
+		err := c.try(limited, c.address(), method, path, body, to)
 		cancel()
 		if err == nil || isForGood(err) {
 			return err
@@ -197,12 +195,13 @@ func (client *Client) ask(ctx context.Context, method, path string, body []byte,
 		if ctx.Err() == nil || last == nil {
 			last = err
 		}
-		if (try+1)%(len(client.config.Addresses)+1) == 0 {
+		if (try+1)%(len(c.config.Addresses)+1) == 0 {
 			select {
 			case <-time.After(pause):
 			case <-ctx.Done():
 			}
-			if pause *= 2; pause > mostPause {
+			pause *= 2
+			if pause > mostPause {
 				pause = mostPause
 			}
 		}
@@ -215,6 +214,6 @@ func (client *Client) ask(ctx context.Context, method, path string, body []byte,
 // A NoAnswerError says that there was no answer in the time that there was.
 type NoAnswerError struct{ Last error }
 
-func (err *NoAnswerError) Error() string { return fmt.Sprintf("there is no answer yet: %v", err.Last) }
+func (e *NoAnswerError) Error() string { return fmt.Sprintf("there is no answer yet: %v", e.Last) }
 
-func (err *NoAnswerError) Unwrap() error { return err.Last }
+func (e *NoAnswerError) Unwrap() error { return e.Last }

@@ -9,10 +9,10 @@ import (
 	"testing"
 	"time"
 
-	"ordup-node/internal/client"
-	"ordup-node/internal/epoch"
-	"ordup-node/internal/exit"
-	"ordup-node/internal/wire"
+	"ordup.dev/node/internal/client"
+	"ordup.dev/node/internal/epoch"
+	"ordup.dev/node/internal/exit"
+	"ordup.dev/node/internal/wire"
 )
 
 // A server answers each request by the next of some functions, and by the last one from then on.
@@ -33,13 +33,13 @@ func acked(to http.ResponseWriter) {
 	wire.Write(to, 200, wire.Acked{Client: "ann", Number: 1, Epoch: 1, Place: 3, Seen: "1.3"})
 }
 
-func failing(status int, name string) func(http.ResponseWriter) {
-	return func(to http.ResponseWriter) { wire.Write(to, status, wire.Error{Name: name, Message: name}) }
+func failing(status int, name wire.Name) func(http.ResponseWriter) {
+	return func(to http.ResponseWriter) { wire.Write(to, status, wire.Error{Name: name, Message: string(name)}) }
 }
 
 // naming says that another primary writes.
 func naming(writer string) func(http.ResponseWriter) {
-	return func(to http.ResponseWriter) { wire.Write(to, 503, wire.Error{Name: "NotWriter", Writer: writer}) }
+	return func(to http.ResponseWriter) { wire.Write(to, 503, wire.Error{Name: wire.NotWriter, Writer: writer}) }
 }
 
 // passed is the answer of a primary that passed a request on to one that does not write any more.
@@ -64,6 +64,7 @@ func update(t *testing.T, most time.Duration, addresses ...string) (wire.Acked, 
 }
 
 func TestItAsksAgainElsewhere(t *testing.T) {
+	t.Parallel()
 	var one, other int64
 	nobody := "http://127.0.0.1:1"
 	right := server(t, &other, failing(503, "Busy"), failing(507, "Full"), failing(504, "NoAnswer"), acked)
@@ -82,6 +83,7 @@ func TestItAsksAgainElsewhere(t *testing.T) {
 
 // Where only the header names the primary that writes, that one is asked next, and not the one that passed the request on.
 func TestTheHeaderNamesWhoIsAskedNext(t *testing.T) {
+	t.Parallel()
 	var one, other int64
 	first := server(t, &one, passed(server(t, &other, acked)))
 	if answer, err := update(t, 5*time.Second, first); err != nil || answer.Seen != "1.3" || one != 1 || other != 1 {
@@ -91,6 +93,7 @@ func TestTheHeaderNamesWhoIsAskedNext(t *testing.T) {
 
 // A token that came by TLS goes to no address without it, whoever names that.
 func TestAnAddressOfAnotherSchemeIsNotAsked(t *testing.T) {
+	t.Parallel()
 	var plain, next int64
 	named := server(t, &plain, acked)
 	for _, names := range []func(http.ResponseWriter){naming(named), passed(named)} {
@@ -106,7 +109,8 @@ func TestAnAddressOfAnotherSchemeIsNotAsked(t *testing.T) {
 		}
 		ctx, cancel := context.WithTimeout(context.Background(), time.Second)
 		defer cancel()
-		if _, err = asker.Update(ctx, wire.Update{Client: "ann", Number: 1}); err == nil || plain != 0 || atomic.SwapInt64(&next, 0) == 0 {
+		_, err = asker.Update(ctx, wire.Update{Client: "ann", Number: 1})
+		if err == nil || plain != 0 || atomic.SwapInt64(&next, 0) == 0 {
 			t.Error(err, plain)
 		}
 	}
@@ -114,6 +118,7 @@ func TestAnAddressOfAnotherSchemeIsNotAsked(t *testing.T) {
 
 // Whatever is asked by POST says that it is JSON, since a node takes nothing else.
 func TestABodySaysThatItIsJSON(t *testing.T) {
+	t.Parallel()
 	kinds := make(chan string, 3)
 	server := httptest.NewServer(http.HandlerFunc(func(to http.ResponseWriter, asked *http.Request) {
 		kinds <- asked.Header.Get("Content-Type")
@@ -125,7 +130,8 @@ func TestABodySaysThatItIsJSON(t *testing.T) {
 		t.Fatal(err)
 	}
 	ctx := context.Background()
-	if _, err = asker.Update(ctx, wire.Update{}); err == nil {
+	_, err = asker.Update(ctx, wire.Update{})
+	if err == nil {
 		_, err = asker.Next(ctx, wire.Next{})
 	}
 	if err == nil {
@@ -140,6 +146,7 @@ func TestABodySaysThatItIsJSON(t *testing.T) {
 
 // A server that is there and has no answer may be cut off from the engine. Another one is not.
 func TestItDoesNotStayWhereThereIsNoAnswer(t *testing.T) {
+	t.Parallel()
 	for _, answer := range []func(http.ResponseWriter){failing(504, "NoAnswer"), failing(500, "Failed"), failing(408, "TooSlow")} {
 		var one, other int64
 		addresses := []string{server(t, &one, answer), server(t, &other, acked)}
@@ -150,17 +157,21 @@ func TestItDoesNotStayWhereThereIsNoAnswer(t *testing.T) {
 }
 
 func TestWhatIsForGoodIsNotAskedAgain(t *testing.T) {
-	for name, status := range map[string]int{"Refused": 422, "Passed": 409, "Differs": 409, "Malformed": 400, "NoToken": 401, "Closed": 403} {
-		var count int64
-		_, err := update(t, 10*time.Second, server(t, &count, failing(status, name)))
-		var told *wire.Error
-		if !errors.As(err, &told) || told.Name != name || told.Status != status || count != 1 {
-			t.Error(name, err, count)
-		}
+	t.Parallel()
+	for name, status := range map[wire.Name]int{"Refused": 422, "Passed": 409, "Differs": 409, "Malformed": 400, "NoToken": 401, "Closed": 403} {
+		t.Run(string(name), func(t *testing.T) {
+			var count int64
+			_, err := update(t, 10*time.Second, server(t, &count, failing(status, name)))
+			var told *wire.Error
+			if !errors.As(err, &told) || told.Name != name || told.Status != status || count != 1 {
+				t.Error(name, err, count)
+			}
+		})
 	}
 }
 
 func TestItTellsTheLastReason(t *testing.T) {
+	t.Parallel()
 	var count int64
 	_, err := update(t, time.Second, server(t, &count, failing(503, "Busy")), "http://127.0.0.1:1")
 	var none *client.NoAnswerError
@@ -168,16 +179,20 @@ func TestItTellsTheLastReason(t *testing.T) {
 		t.Error(err, count)
 	}
 	hangs := server(t, &count, func(http.ResponseWriter) { time.Sleep(300 * time.Millisecond) })
-	if _, err = update(t, 100*time.Millisecond, hangs); !errors.As(err, &none) {
+	_, err = update(t, 100*time.Millisecond, hangs)
+	if !errors.As(err, &none) {
 		t.Error(err)
 	}
 }
 
 func TestAnAddressHasAForm(t *testing.T) {
+	t.Parallel()
 	for _, address := range []string{"", "127.0.0.1:7002", "ftp://a:1", "http://a", "http://a:1/", "http://u@a:1", "http://:1", "http://a:1?b"} {
-		if _, err := client.New(client.Config{Addresses: []string{address}}); exit.Of(err) != exit.Words {
-			t.Errorf("%q: %v", address, err)
-		}
+		t.Run(address, func(t *testing.T) {
+			if _, err := client.New(client.Config{Addresses: []string{address}}); exit.Of(err) != exit.Words {
+				t.Errorf("%q: %v", address, err)
+			}
+		})
 	}
 	if _, err := client.New(client.Config{}); exit.Of(err) != exit.Words {
 		t.Error(err)

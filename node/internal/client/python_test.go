@@ -11,6 +11,7 @@ import (
 
 // The client in Python asks as this one does, and ends with its statuses, but where the store refuses an update.
 func TestTheClientInPython(t *testing.T) {
+	t.Parallel()
 	if _, err := exec.LookPath("python3"); err != nil {
 		t.Skip("there is no python3 here")
 	}
@@ -28,12 +29,14 @@ func TestTheClientInPython(t *testing.T) {
 		{"no node", []func(http.ResponseWriter){page}, 1, "there is no answer yet"},
 		{"full", []func(http.ResponseWriter){failing(507, "Full")}, 1, `"error": "Full"`},
 	} {
-		var count int64
-		asked := exec.Command("python3", "../../../examples/machines/update.py", "--patience", "1.5", server(t, &count, row.answers...), "ann", "1", "add:tea:-5")
-		said, _ := asked.CombinedOutput()
-		if status := asked.ProcessState.ExitCode(); status != row.status || !strings.Contains(string(said), row.says) || bytes.Contains(said, []byte("Traceback")) {
-			t.Errorf("%s: %d %s", row.what, status, said)
-		}
+		t.Run(row.what, func(t *testing.T) {
+			var count int64
+			asked := exec.Command("python3", "../../../examples/machines/update.py", "--patience", "1.5", server(t, &count, row.answers...), "ann", "1", "add:tea:-5")
+			said, _ := asked.CombinedOutput()
+			if status := asked.ProcessState.ExitCode(); status != row.status || !strings.Contains(string(said), row.says) || bytes.Contains(said, []byte("Traceback")) {
+				t.Errorf("%s: %d %s", row.what, status, said)
+			}
+		})
 	}
 	kind := ""
 	server := httptest.NewServer(http.HandlerFunc(func(to http.ResponseWriter, asked *http.Request) {

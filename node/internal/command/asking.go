@@ -10,14 +10,15 @@ import (
 	"strings"
 	"time"
 
-	"ordup-node/internal/client"
-	"ordup-node/internal/engine"
-	"ordup-node/internal/exit"
-	"ordup-node/internal/logs"
-	"ordup-node/internal/reload"
-	"ordup-node/internal/serve"
-	"ordup-node/internal/settings"
-	"ordup-node/internal/wire"
+	"ordup.dev/node/internal/client"
+	"ordup.dev/node/internal/engine"
+	"ordup.dev/node/internal/exit"
+	"ordup.dev/node/internal/logs"
+	"ordup.dev/node/internal/reload"
+	"ordup.dev/node/internal/script"
+	"ordup.dev/node/internal/serve"
+	"ordup.dev/node/internal/settings"
+	"ordup.dev/node/internal/wire"
 )
 
 // askingSettings say who is asked, and how.
@@ -29,30 +30,31 @@ type askingSettings struct {
 }
 
 // add adds the settings of one who asks primaries or sites, as the key says.
-func (own *askingSettings) add(set *settings.Set, key, help string) {
-	own.key = key
-	set.List(&own.addresses, key, help)
-	set.Text(&own.authority, "authority", "", "`FILE` in PEM with the authority of their certificates")
-	set.Text(&own.token, "token", "", "`FILE` with the own token, in its first line")
+func (a *askingSettings) add(set *settings.Set, key, help string) {
+	a.key = key
+	set.List(&a.addresses, key, help)
+	set.Text(&a.authority, "authority", "", "`FILE` in PEM with the authority of their certificates")
+	set.Text(&a.token, "token", "", "`FILE` with the own token, in its first line")
 }
 
-func (own *askingSettings) addPatience(set *settings.Set) {
-	set.Seconds(&own.patience, "patience", time.Minute, 24*time.Hour, "`SECONDS` up to which it asks again")
+func (a *askingSettings) addPatience(set *settings.Set) {
+	set.Seconds(&a.patience, "patience", time.Minute, 24*time.Hour, "`SECONDS` up to which it asks again")
 }
 
-func (own *askingSettings) client(log *logs.Log) (*client.Client, error) {
-	config := client.Config{Addresses: own.addresses}
+func (a *askingSettings) client(log *logs.Log) (*client.Client, error) {
+	config := client.Config{Addresses: a.addresses}
 	var err error
-	if len(own.addresses) == 0 {
-		return nil, wrong("%s: the addresses are missing", own.key)
+	if len(a.addresses) == 0 {
+		return nil, wrong("%s: the addresses are missing", a.key)
 	}
-	if config.TLS, err = engine.TLSOf(own.authority, "", "", log); err != nil {
-		return nil, err
+	config.TLS, err = engine.TLSOf(a.authority, "", "", log)
+	if err != nil {
+		return nil, fmt.Errorf("authority: %w", err)
 	}
-	if own.token != "" {
-		tokens, err := reload.New(log, func() ([]serve.Token, error) { return serve.TokensOf(own.token) }, own.token)
+	if a.token != "" {
+		tokens, err := reload.New(log, func() ([]serve.Token, error) { return serve.TokensOf(a.token) }, a.token)
 		if err != nil {
-			return nil, err
+			return nil, fmt.Errorf("token: %w", err)
 		}
 		config.Token = func() string { return tokens.Now()[0].Text }
 	}
@@ -60,30 +62,16 @@ func (own *askingSettings) client(log *logs.Log) (*client.Client, error) {
 }
 
 // asks gives what runs a command that asks for the time that it has patience.
-func (own *askingSettings) asks(log *logs.Log, ask func(context.Context, *client.Client, []string) error) func(context.Context, []string) error {
+func (a *askingSettings) asks(log *logs.Log, ask func(context.Context, *client.Client, []string) error) func(context.Context, []string) error {
 	return func(ctx context.Context, words []string) error {
-		asker, err := own.client(log)
+		asker, err := a.client(log)
 		if err != nil {
 			return err
 		}
-		limited, cancel := context.WithTimeout(ctx, own.patience)
+		limited, cancel := context.WithTimeout(ctx, a.patience)
 		defer cancel()
-		return endingOf(ask(limited, asker, words))
+		return ask(limited, asker, words)
 	}
-}
-
-// endingOf gives an answer that is an error its status: 2 where the request can never be done as it is.
-func endingOf(err error) error {
-	var told *wire.Error
-	var none *client.NoAnswerError
-	if err == nil || errors.As(err, &none) || !errors.As(err, &told) {
-		return err
-	}
-	switch told.Name {
-	case "Malformed", "NoToken", "Closed", "NoSuchPath", "NoSuchObject", "NoSuchMethod", "Passed", "Differs", "TooLarge", "NoWish":
-		return exit.With(exit.Words, err)
-	}
-	return err
 }
 
 func updateSettings(program *Program, set *settings.Set) func(context.Context, []string) error {
@@ -102,13 +90,13 @@ func updateSettings(program *Program, set *settings.Set) func(context.Context, [
 		acked, err := asker.Update(ctx, wire.Update{Client: words[0], Number: number, Changes: changes})
 		var told *wire.Error
 		switch {
-		case errors.As(err, &told) && told.Name == "Refused":
-			fmt.Fprintf(program.Out, "refused %d %s\n", told.Refused, told.Refusal)
+		case errors.As(err, &told) && told.Name == wire.Refused:
+			fmt.Fprintln(program.Out, script.Refusal{Number: told.Refused, Name: told.Refusal})
 			return nil
 		case err != nil:
 			return err
 		}
-		fmt.Fprintf(program.Out, "ok acked %d epoch %d\n", acked.Place, acked.Epoch)
+		fmt.Fprintln(program.Out, script.Answer{Place: acked.Place, Epoch: acked.Epoch})
 		return nil
 	})
 }

@@ -8,17 +8,19 @@ import (
 	"fmt"
 	"io"
 
-	"ordup-node/internal/exit"
-	"ordup-node/internal/logs"
-	"ordup-node/internal/settings"
-	"ordup-node/internal/store"
+	"ordup.dev/node/internal/exit"
+	"ordup.dev/node/internal/logs"
+	"ordup.dev/node/internal/settings"
+	"ordup.dev/node/internal/store"
 )
 
 // A Program is what the commands share.
 type Program struct {
 	// Versions are the versions of ordup whose answers the stores give. The first one is that of the program.
 	Versions []string
-	Open     store.Open
+	// Open gives stores, and Checker checks their records.
+	Open    store.Open
+	Checker store.Checker
 	// Out is for what was asked for, and Err for help. Events go to Log.
 	Out, Err io.Writer
 	Log      *logs.Log
@@ -43,38 +45,38 @@ func commands() []command {
 	}
 }
 
-func (program *Program) version() string { return program.Versions[0] }
+func (p *Program) version() string { return p.Versions[0] }
 
 // Run does what the words say, until the context ends, and returns the status.
-func (program *Program) Run(ctx context.Context, words []string) exit.Status {
+func (p *Program) Run(ctx context.Context, words []string) exit.Status {
 	name := ""
 	if len(words) > 0 {
 		name = words[0]
 	}
 	switch name {
 	case "--version", "version":
-		fmt.Fprintln(program.Out, "ordup-node", program.version())
+		fmt.Fprintln(p.Out, "ordup-node", p.version())
 		return exit.Done
 	case "--help", "-h", "help":
-		program.help(program.Out)
+		p.help(p.Out)
 		return exit.Done
 	}
 	for _, each := range commands() {
 		if each.name == name {
-			return program.run(ctx, &each, words[1:])
+			return p.run(ctx, &each, words[1:])
 		}
 	}
-	fmt.Fprintf(program.Err, "ordup-node: there is no command %.40q\n", name)
-	program.help(program.Err)
+	fmt.Fprintf(p.Err, "ordup-node: there is no command %.40q\n", name)
+	p.help(p.Err)
 	return exit.Words
 }
 
-func (program *Program) run(ctx context.Context, command *command, words []string) exit.Status {
+func (p *Program) run(ctx context.Context, command *command, words []string) exit.Status {
 	set := settings.New(command.name)
-	run := command.settings(program, set)
-	rest, err := set.Read(words, program.isKnown)
+	run := command.settings(p, set)
+	rest, err := set.Read(words, p.isKnown)
 	if errors.Is(err, flag.ErrHelp) {
-		fmt.Fprintf(program.Out, "ordup-node %s %s\n%s.\n\n%s", command.name, command.words, command.help, set.Help())
+		fmt.Fprintf(p.Out, "ordup-node %s %s\n%s.\n\n%s", command.name, command.words, command.help, set.Help())
 		return exit.Done
 	}
 	if err != nil {
@@ -85,16 +87,16 @@ func (program *Program) run(ctx context.Context, command *command, words []strin
 		err = run(ctx, rest)
 	}
 	if err != nil {
-		program.Log.Error("ends", "command", command.name, "status", int(exit.Of(err)), "why", err)
+		p.Log.Error("ends", "command", command.name, "status", int(exit.Of(err)), "why", err)
 	}
 	return exit.Of(err)
 }
 
 // isKnown is whether a command has a setting of this key.
-func (program *Program) isKnown(key string) bool {
+func (p *Program) isKnown(key string) bool {
 	for _, each := range commands() {
 		set := settings.New(each.name)
-		each.settings(program, set)
+		each.settings(p, set)
 		if set.Has(key) {
 			return true
 		}
@@ -102,7 +104,7 @@ func (program *Program) isKnown(key string) bool {
 	return false
 }
 
-func (program *Program) help(to io.Writer) {
+func (p *Program) help(to io.Writer) {
 	fmt.Fprint(to, "usage: ordup-node COMMAND [--SETTING VALUE].. [WORD..]\n\n")
 	for _, each := range commands() {
 		fmt.Fprintf(to, "  %-8s %-23s %s\n", each.name, each.words, each.help)
@@ -111,6 +113,6 @@ func (program *Program) help(to io.Writer) {
 }
 
 // wrong is an error of words or settings.
-func wrong(format string, words ...interface{}) error {
+func wrong(format string, words ...any) error {
 	return exit.With(exit.Words, fmt.Errorf(format, words...))
 }

@@ -19,11 +19,18 @@ import (
 	"testing"
 	"time"
 
-	"ordup-node/internal/command"
-	"ordup-node/internal/etcdtest"
-	"ordup-node/internal/exit"
-	"ordup-node/internal/library"
-	"ordup-node/internal/logs"
+	"ordup.dev/node/internal/command"
+	"ordup.dev/node/internal/etcdtest"
+	"ordup.dev/node/internal/exit"
+	"ordup.dev/node/internal/logs"
+	"ordup.dev/node/internal/modelstore"
+	"ordup.dev/node/internal/store"
+)
+
+// openStore and checker are those of the tests. With the tag library they are those of the program.
+var (
+	openStore store.Open    = modelstore.Open
+	checker   store.Checker = modelstore.Checker{}
 )
 
 // A text may be written by several goroutines.
@@ -32,16 +39,16 @@ type text struct {
 	all  bytes.Buffer
 }
 
-func (text *text) Write(more []byte) (int, error) {
-	text.lock.Lock()
-	defer text.lock.Unlock()
-	return text.all.Write(more)
+func (tx *text) Write(more []byte) (int, error) {
+	tx.lock.Lock()
+	defer tx.lock.Unlock()
+	return tx.all.Write(more)
 }
 
-func (text *text) String() string {
-	text.lock.Lock()
-	defer text.lock.Unlock()
-	return text.all.String()
+func (tx *text) String() string {
+	tx.lock.Lock()
+	defer tx.lock.Unlock()
+	return tx.all.String()
 }
 
 // run does a command, and gives its status, what it printed and what it logged.
@@ -52,7 +59,7 @@ func run(ctx context.Context, words ...string) (exit.Status, string, string) {
 // runAs does a command by a program of these versions.
 func runAs(ctx context.Context, versions []string, words ...string) (exit.Status, string, string) {
 	out, log := &text{}, &text{}
-	program := &command.Program{Versions: versions, Open: library.Open, Out: out, Err: log, Log: logs.New(log)}
+	program := &command.Program{Versions: versions, Open: openStore, Checker: checker, Out: out, Err: log, Log: logs.New(log)}
 	status := program.Run(ctx, words)
 	return status, out.String(), log.String()
 }
@@ -131,7 +138,9 @@ func TestWordsAndSettingsThatAreWrongAreNamed(t *testing.T) {
 		{2, "say the folders", "fsck"},
 		{2, "there is no archive", "fsck /nowhere"},
 	} {
-		is(t, row.status, row.says, strings.Fields(row.words)...)
+		t.Run(row.words, func(t *testing.T) {
+			is(t, row.status, row.says, strings.Fields(row.words)...)
+		})
 	}
 }
 
@@ -147,16 +156,16 @@ type deployment struct {
 }
 
 // start runs a command until its stop is called, which gives its status and its log.
-func (deployment *deployment) start(name string, words ...string) {
+func (d *deployment) start(name string, words ...string) {
 	ctx, cancel := context.WithCancel(context.Background())
-	versions := deployment.versions
+	versions := d.versions
 	type end struct {
 		status exit.Status
 		log    string
 	}
 	ended := make(chan end, 1)
 	go func() {
-		status, _, log := runAs(ctx, versions, append(words, deployment.common...)...)
+		status, _, log := runAs(ctx, versions, append(words, d.common...)...)
 		ended <- end{status, log}
 	}()
 	var once sync.Once
@@ -165,10 +174,10 @@ func (deployment *deployment) start(name string, words ...string) {
 		once.Do(func() { cancel(); was = <-ended })
 		return was.status, was.log
 	}
-	deployment.stops[name], deployment.words[name] = stop, words
-	deployment.t.Cleanup(func() {
-		if _, log := stop(); deployment.t.Failed() {
-			deployment.t.Log(name, log)
+	d.stops[name], d.words[name] = stop, words
+	d.t.Cleanup(func() {
+		if _, log := stop(); d.t.Failed() {
+			d.t.Log(name, log)
 		}
 	})
 }
@@ -197,9 +206,9 @@ func deploy(t *testing.T, common ...string) *deployment {
 	return deployment
 }
 
-func (deployment *deployment) is(status exit.Status, want string, words ...string) {
-	deployment.t.Helper()
-	is(deployment.t, status, want, append(words, deployment.common...)...)
+func (d *deployment) is(status exit.Status, want string, words ...string) {
+	d.t.Helper()
+	is(d.t, status, want, append(words, d.common...)...)
 }
 
 func TestADeploymentFromItsBeginningToItsEnd(t *testing.T) {
@@ -259,9 +268,9 @@ func TestAllComeBackAfterOtherDeclarations(t *testing.T) {
 }
 
 // ended waits until a process has ended by itself.
-func (deployment *deployment) ended(name string) (exit.Status, string) {
+func (d *deployment) ended(name string) (exit.Status, string) {
 	time.Sleep(2 * time.Second)
-	return deployment.stops[name]()
+	return d.stops[name]()
 }
 
 // certificate writes a certificate for this computer, which is its own authority, and its key.

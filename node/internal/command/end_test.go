@@ -12,10 +12,10 @@ import (
 )
 
 // awaitNumber waits until a primary has this among its numbers.
-func (deployment *deployment) awaitNumber(line string) {
-	deployment.t.Helper()
+func (d *deployment) awaitNumber(line string) {
+	d.t.Helper()
 	for tries := 0; tries < 200; tries++ {
-		for _, address := range deployment.primary {
+		for _, address := range d.primary {
 			if answer, err := http.Get("http://" + address + "/metrics"); err == nil {
 				text, _ := io.ReadAll(answer.Body)
 				answer.Body.Close()
@@ -26,7 +26,7 @@ func (deployment *deployment) awaitNumber(line string) {
 		}
 		time.Sleep(50 * time.Millisecond)
 	}
-	deployment.t.Fatalf("no primary has the number %s", line)
+	d.t.Fatalf("no primary has the number %s", line)
 }
 
 func TestARequestOutlivesThePrimaryThatItWasAskedAt(t *testing.T) {

@@ -1,14 +1,15 @@
 package command
 
 import (
+	"fmt"
 	"os"
 	"strings"
 
-	"ordup-node/internal/client"
-	"ordup-node/internal/engine"
-	"ordup-node/internal/exit"
-	"ordup-node/internal/logs"
-	"ordup-node/internal/settings"
+	"ordup.dev/node/internal/client"
+	"ordup.dev/node/internal/engine"
+	"ordup.dev/node/internal/exit"
+	"ordup.dev/node/internal/logs"
+	"ordup.dev/node/internal/settings"
 )
 
 // engineSettings say where the engine is.
@@ -18,21 +19,21 @@ type engineSettings struct {
 	user, password              string
 }
 
-func (own *engineSettings) add(set *settings.Set) {
-	set.List(&own.members, "engine", "`ADDRESS,..` of the members of etcd, as http://10.0.0.1:2379")
-	set.Text(&own.authority, "engine-authority", "", "`FILE` in PEM with the authority of their certificates")
-	set.Text(&own.certificate, "engine-certificate", "", "`FILE` in PEM with the certificate of this process for etcd")
-	set.Text(&own.key, "engine-key", "", "`FILE` in PEM with the key of this certificate")
-	set.Text(&own.user, "engine-user", "", "`NAME` of the user of etcd")
-	set.Text(&own.password, "engine-password", "", "`FILE` with the password of this user")
+func (e *engineSettings) add(set *settings.Set) {
+	set.List(&e.members, "engine", "`ADDRESS,..` of the members of etcd, as http://10.0.0.1:2379")
+	set.Text(&e.authority, "engine-authority", "", "`FILE` in PEM with the authority of their certificates")
+	set.Text(&e.certificate, "engine-certificate", "", "`FILE` in PEM with the certificate of this process for etcd")
+	set.Text(&e.key, "engine-key", "", "`FILE` in PEM with the key of this certificate")
+	set.Text(&e.user, "engine-user", "", "`NAME` of the user of etcd")
+	set.Text(&e.password, "engine-password", "", "`FILE` with the password of this user")
 }
 
-func (own *engineSettings) open(log *logs.Log) (*engine.Engine, error) {
-	if len(own.members) == 0 {
+func (e *engineSettings) open(log *logs.Log) (*engine.Engine, error) {
+	if len(e.members) == 0 {
 		return nil, wrong("engine: the addresses of the members are missing")
 	}
-	isSecure := own.authority != "" || own.certificate != "" || own.key != ""
-	for _, member := range own.members {
+	isSecure := e.authority != "" || e.certificate != "" || e.key != ""
+	for _, member := range e.members {
 		if !client.IsAddress(member) {
 			return nil, wrong("engine: %.80q is no address as http://10.0.0.1:2379", member)
 		}
@@ -40,22 +41,23 @@ func (own *engineSettings) open(log *logs.Log) (*engine.Engine, error) {
 			return nil, wrong("engine: %s and the settings of certificates do not fit: https:// needs engine-authority, and http:// has none", member)
 		}
 	}
-	if (own.user == "") != (own.password == "") {
+	if (e.user == "") != (e.password == "") {
 		return nil, wrong("engine-user and engine-password belong together")
 	}
-	config := engine.Config{Members: own.members, User: own.user}
-	secure, err := engine.TLSOf(own.authority, own.certificate, own.key, log)
+	config := engine.Config{Members: e.members, User: e.user}
+	secure, err := engine.TLSOf(e.authority, e.certificate, e.key, log)
 	if err != nil {
-		return nil, exit.With(exit.Environment, err)
+		return nil, exit.With(exit.Environment, fmt.Errorf("engine: %w", err))
 	}
 	config.TLS = secure
-	if own.password != "" {
-		text, err := os.ReadFile(own.password)
+	if e.password != "" {
+		text, err := os.ReadFile(e.password)
 		if err != nil {
-			return nil, err
+			return nil, fmt.Errorf("engine-password: %w", err)
 		}
-		if config.Password = strings.TrimSpace(string(text)); config.Password == "" {
-			return nil, wrong("engine-password: %s is empty", own.password)
+		config.Password = strings.TrimSpace(string(text))
+		if config.Password == "" {
+			return nil, wrong("engine-password: %s is empty", e.password)
 		}
 	}
 	return engine.Open(config), nil

@@ -5,8 +5,8 @@ import (
 	"testing"
 	"time"
 
-	"ordup-node/internal/engine"
-	"ordup-node/internal/etcdtest"
+	"ordup.dev/node/internal/engine"
+	"ordup.dev/node/internal/etcdtest"
 )
 
 func TestTheEngineHasTLSAndUsers(t *testing.T) {
@@ -24,8 +24,10 @@ func TestTheEngineHasTLSAndUsers(t *testing.T) {
 	ctx, cancel := context.WithTimeout(context.Background(), 20*time.Second)
 	defer cancel()
 	client := members.Client()
-	if _, err = client.UserAdd(ctx, "root", "a secret"); err == nil {
-		if _, err = client.UserGrantRole(ctx, "root", "root"); err == nil {
+	_, err = client.UserAdd(ctx, "root", "a secret")
+	if err == nil {
+		_, err = client.UserGrantRole(ctx, "root", "root")
+		if err == nil {
 			_, err = client.AuthEnable(ctx)
 		}
 	}

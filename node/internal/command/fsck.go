@@ -4,8 +4,8 @@ import (
 	"context"
 	"fmt"
 
-	"ordup-node/internal/fsck"
-	"ordup-node/internal/settings"
+	"ordup.dev/node/internal/fsck"
+	"ordup.dev/node/internal/settings"
 )
 
 func fsckSettings(program *Program, set *settings.Set) func(context.Context, []string) error {
@@ -16,7 +16,7 @@ func fsckSettings(program *Program, set *settings.Set) func(context.Context, []s
 		if len(folders) == 0 && len(own.members) == 0 {
 			return wrong("say the folders with archives, or the engine")
 		}
-		config := fsck.Config{Folders: folders, From: from, Versions: program.Versions,
+		config := fsck.Config{Folders: folders, From: from, Versions: program.Versions, Open: program.Open, Checker: program.Checker,
 			Tell: func(checked fsck.Epoch) { fmt.Fprintln(program.Out, checked) }}
 		if len(own.members) > 0 {
 			opened, err := own.open(program.Log)

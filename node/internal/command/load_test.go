@@ -16,9 +16,9 @@ import (
 	"testing"
 	"time"
 
-	"ordup-node/internal/client"
-	"ordup-node/internal/etcdtest"
-	"ordup-node/internal/wire"
+	"ordup.dev/node/internal/client"
+	"ordup.dev/node/internal/etcdtest"
+	"ordup.dev/node/internal/wire"
 )
 
 // NODE_LOAD=1,10,100,1000 measures so many clients over HTTP, at processes of the program NODE_PROGRAM, for NODE_SECONDS each: the answers a
@@ -139,7 +139,8 @@ func read(by *http.Client, site string) error {
 		return err
 	}
 	defer answer.Body.Close()
-	if _, err = io.Copy(io.Discard, answer.Body); err == nil && answer.StatusCode != http.StatusOK {
+	_, err = io.Copy(io.Discard, answer.Body)
+	if err == nil && answer.StatusCode != http.StatusOK {
 		err = fmt.Errorf("the status is %d", answer.StatusCode)
 	}
 	return err

@@ -3,15 +3,16 @@ package command
 import (
 	"context"
 	"errors"
+	"fmt"
 	"os"
 
-	"ordup-node/internal/archive"
-	"ordup-node/internal/engine"
-	"ordup-node/internal/epoch"
-	"ordup-node/internal/numbers"
-	"ordup-node/internal/primary"
-	"ordup-node/internal/serve"
-	"ordup-node/internal/settings"
+	"ordup.dev/node/internal/archive"
+	"ordup.dev/node/internal/engine"
+	"ordup.dev/node/internal/epoch"
+	"ordup.dev/node/internal/numbers"
+	"ordup.dev/node/internal/primary"
+	"ordup.dev/node/internal/serve"
+	"ordup.dev/node/internal/settings"
 )
 
 // primaryOwn are the settings of a primary.
@@ -39,34 +40,35 @@ func primarySettings(program *Program, set *settings.Set) func(context.Context, 
 	return func(ctx context.Context, _ []string) error { return own.run(ctx, program) }
 }
 
-func (own *primaryOwn) config(program *Program) (config primary.Config, err error) {
-	if err = own.serving.check(program.Log); err != nil {
+func (p *primaryOwn) config(program *Program) (config primary.Config, err error) {
+	if err = p.serving.check(program.Log); err != nil {
 		return config, err
 	}
-	if own.archive == "" {
+	if p.archive == "" {
 		return config, wrong("archive: the folder is missing")
 	}
-	config = primary.Config{Open: program.Open, Host: own.serving.host, Versions: program.Versions, Every: own.every,
-		Remembers: own.remembers, Seconds: own.seconds, Folder: own.archive, Copies: int(own.copies), Log: program.Log}
-	if config.Address, err = own.serving.address(own.address); err != nil {
+	config = primary.Config{Open: program.Open, Host: p.serving.host, Versions: program.Versions, Every: p.every,
+		Remembers: p.remembers, Seconds: p.seconds, Folder: p.archive, Copies: int(p.copies), Log: program.Log}
+	config.Address, err = p.serving.address(p.address)
+	if err != nil {
 		return config, err
 	}
-	if own.declarations != "" {
-		text, err := os.ReadFile(own.declarations)
+	if p.declarations != "" {
+		text, err := os.ReadFile(p.declarations)
 		if err != nil {
-			return config, err
+			return config, fmt.Errorf("declarations: %w", err)
 		}
 		config.Declarations = epoch.Declarations(string(text))
 	}
-	if err = archive.MakeFolder(own.archive); err != nil {
-		return config, err
+	if err = archive.MakeFolder(p.archive); err != nil {
+		return config, fmt.Errorf("archive: %w", err)
 	}
-	config.Engine, err = own.engine.open(program.Log)
+	config.Engine, err = p.engine.open(program.Log)
 	return config, err
 }
 
-func (own *primaryOwn) run(ctx context.Context, program *Program) error {
-	config, err := own.config(program)
+func (p *primaryOwn) run(ctx context.Context, program *Program) error {
+	config, err := p.config(program)
 	if err != nil {
 		return err
 	}
@@ -75,17 +77,17 @@ func (own *primaryOwn) run(ctx context.Context, program *Program) error {
 	if err != nil {
 		return err
 	}
-	secure, err := engine.TLSOf(own.authority, "", "", program.Log)
+	secure, err := engine.TLSOf(p.authority, "", "", program.Log)
 	if err != nil {
-		return err
+		return fmt.Errorf("authority: %w", err)
 	}
 	lag := &numbers.Lag{}
-	seen := numbers.OfPrimary(program.version(), own.serving.open, process.Status)
-	handler := serve.NewPrimary(serve.Config{Guard: &own.serving.guard, Requests: own.serving.mostRequests(),
+	seen := numbers.OfPrimary(program.version(), p.serving.open, process.Status)
+	handler := serve.NewPrimary(serve.Config{Guard: &p.serving.guard, Requests: p.serving.mostRequests(),
 		Ready: func() error { return isReady(process.Status()) }, Numbers: seen.Handler(),
 		Page: numbers.PageOfPrimary(config.Host, lag, process.Status)}, process, serve.NewPasser(config.Address, secure), seen.Waited)
 	program.Log.Info("starts", "command", "primary", "version", program.version(), "host", config.Host, "address", config.Address)
-	return own.serving.run(ctx, program.Log, handler, func(ctx context.Context) error {
+	return p.serving.run(ctx, program.Log, handler, func(ctx context.Context) error {
 		go lag.Run(ctx, process.Status)
 		return process.Run(ctx)
 	})
@@ -94,7 +96,7 @@ func (own *primaryOwn) run(ctx context.Context, program *Program) error {
 // isReady is why a primary takes no requests now, or nil.
 func isReady(status primary.Status) error {
 	switch {
-	case status.Counts.Full > 0:
+	case status.Counts.Full:
 		return primary.ErrFull
 	case status.Writes && status.Lease == 0:
 		return errors.New("the lease of this primary is over: the engine does not answer")

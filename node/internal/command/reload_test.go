@@ -10,8 +10,8 @@ import (
 	"testing"
 	"time"
 
-	"ordup-node/internal/etcdtest"
-	"ordup-node/internal/exit"
+	"ordup.dev/node/internal/etcdtest"
+	"ordup.dev/node/internal/exit"
 )
 
 // A process that goes on takes another certificate and other tokens from its files. With a broken file it keeps what it has.
@@ -46,7 +46,8 @@ func TestCertificatesAndTokensAreReadAgain(t *testing.T) {
 		t.Helper()
 		serial, status := "", 0
 		for end := time.Now().Add(8 * time.Second); time.Now().Before(end); time.Sleep(100 * time.Millisecond) {
-			if serial, status = look(token); isSo(serial, status) {
+			serial, status = look(token)
+			if isSo(serial, status) {
 				return
 			}
 		}

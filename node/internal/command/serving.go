@@ -13,13 +13,13 @@ import (
 
 	"golang.org/x/sys/unix"
 
-	"ordup-node/internal/client"
-	"ordup-node/internal/exit"
-	"ordup-node/internal/listen"
-	"ordup-node/internal/logs"
-	"ordup-node/internal/reload"
-	"ordup-node/internal/serve"
-	"ordup-node/internal/settings"
+	"ordup.dev/node/internal/client"
+	"ordup.dev/node/internal/exit"
+	"ordup.dev/node/internal/listen"
+	"ordup.dev/node/internal/logs"
+	"ordup.dev/node/internal/reload"
+	"ordup.dev/node/internal/serve"
+	"ordup.dev/node/internal/settings"
 )
 
 const (
@@ -39,112 +39,112 @@ type servingSettings struct {
 	guard                                    serve.Guard
 }
 
-func (own *servingSettings) add(set *settings.Set, usual string) {
+func (s *servingSettings) add(set *settings.Set, usual string) {
 	name, _ := os.Hostname()
-	set.Text(&own.listen, "listen", usual, "`HOST:PORT` to listen at")
-	set.Text(&own.host, "host", regexp.MustCompile(`[^A-Za-z0-9._-]`).ReplaceAllString(name, "-"), "`NAME` of this host among those of the deployment")
-	set.Text(&own.certificate, "certificate", "", "`FILE` in PEM with the certificate of this process: so it listens with TLS")
-	set.Text(&own.key, "key", "", "`FILE` in PEM with the key of this certificate")
-	set.Text(&own.clientTokens, "client-tokens", "", "`FILE` with the tokens of clients and readers, one a line, or open for anybody")
-	set.Text(&own.siteTokens, "site-tokens", "", "`FILE` with the tokens of sites and fleets, maybe each with the site that it is of, or open")
-	set.Text(&own.operatorTokens, "operator-tokens", "", "`FILE` with the tokens of operators, or open")
-	set.Number(&own.connections, "connections", 10_000, 16, 1_000_000, "`NUMBER` of connections at most")
-	set.Number(&own.requests, "requests", 5_000, 1, 1_000_000, "`NUMBER` of requests under way at most")
+	set.Text(&s.listen, "listen", usual, "`HOST:PORT` to listen at")
+	set.Text(&s.host, "host", regexp.MustCompile(`[^A-Za-z0-9._-]`).ReplaceAllString(name, "-"), "`NAME` of this host among those of the deployment")
+	set.Text(&s.certificate, "certificate", "", "`FILE` in PEM with the certificate of this process: so it listens with TLS")
+	set.Text(&s.key, "key", "", "`FILE` in PEM with the key of this certificate")
+	set.Text(&s.clientTokens, "client-tokens", "", "`FILE` with the tokens of clients and readers, one a line, or open for anybody")
+	set.Text(&s.siteTokens, "site-tokens", "", "`FILE` with the tokens of sites and fleets, maybe each with the site that it is of, or open")
+	set.Text(&s.operatorTokens, "operator-tokens", "", "`FILE` with the tokens of operators, or open")
+	set.Number(&s.connections, "connections", 10_000, 16, 1_000_000, "`NUMBER` of connections at most")
+	set.Number(&s.requests, "requests", 5_000, 1, 1_000_000, "`NUMBER` of requests under way at most")
 }
 
 // isSecure is whether the process listens with TLS.
-func (own *servingSettings) isSecure() bool { return own.certificate != "" || own.key != "" }
+func (s *servingSettings) isSecure() bool { return s.certificate != "" || s.key != "" }
 
-func (own *servingSettings) secure(log *logs.Log) (*tls.Config, error) {
-	if !own.isSecure() {
+func (s *servingSettings) secure(log *logs.Log) (*tls.Config, error) {
+	if !s.isSecure() {
 		return nil, nil
 	}
-	pair, err := reload.Pair(own.certificate, own.key, log)
+	pair, err := reload.Pair(s.certificate, s.key, log)
 	if err != nil {
-		return nil, err
+		return nil, fmt.Errorf("certificate and key: %w", err)
 	}
 	return &tls.Config{MinVersion: tls.VersionTLS12,
 		GetCertificate: func(*tls.ClientHelloInfo) (*tls.Certificate, error) { return pair.Now(), nil }}, nil
 }
 
 // check looks at the settings, before the process does anything.
-func (own *servingSettings) check(log *logs.Log) error {
-	own.guard.Log = log
-	if _, _, err := net.SplitHostPort(own.listen); err != nil {
-		return wrong("listen: %.80q is not HOST:PORT", own.listen)
+func (s *servingSettings) check(log *logs.Log) error {
+	s.guard.Log = log
+	if _, _, err := net.SplitHostPort(s.listen); err != nil {
+		return wrong("listen: %.80q is not HOST:PORT", s.listen)
 	}
 	for _, each := range []struct {
 		role serve.Role
 		file string
-	}{{serve.Clients, own.clientTokens}, {serve.Sites, own.siteTokens}, {serve.Operators, own.operatorTokens}} {
+	}{{serve.Clients, s.clientTokens}, {serve.Sites, s.siteTokens}, {serve.Operators, s.operatorTokens}} {
 		if each.file == "" {
 			continue
 		}
-		if err := own.guard.Load(each.role, each.file); err != nil {
-			return err
+		if err := s.guard.Load(each.role, each.file); err != nil {
+			return fmt.Errorf("tokens: %w", err)
 		}
 	}
-	log.Info("who-may-ask", "clients", own.guard.Asks(serve.Clients), "sites", own.guard.Asks(serve.Sites),
-		"operators", own.guard.Asks(serve.Operators))
+	log.Info("who-may-ask", "clients", s.guard.Asks(serve.Clients), "sites", s.guard.Asks(serve.Sites),
+		"operators", s.guard.Asks(serve.Operators))
 	return nil
 }
 
 // address is where others reach the process, by a setting or by where it listens.
-func (own *servingSettings) address(given string) (string, error) {
+func (s *servingSettings) address(given string) (string, error) {
 	if given != "" {
-		if !client.IsAddress(given) || strings.HasPrefix(given, "https://") != own.isSecure() {
+		if !client.IsAddress(given) || strings.HasPrefix(given, "https://") != s.isSecure() {
 			return "", wrong("address: %.80q is no address as http://10.0.0.1:7002, or https:// where there is a certificate", given)
 		}
 		return given, nil
 	}
-	host, _, _ := net.SplitHostPort(own.listen)
+	host, _, _ := net.SplitHostPort(s.listen)
 	if ip := net.ParseIP(host); host == "" || ip != nil && ip.IsUnspecified() {
-		return "", wrong("address: say where others reach this process, since it listens at %s", own.listen)
+		return "", wrong("address: say where others reach this process, since it listens at %s", s.listen)
 	}
 	scheme := "http://"
-	if own.isSecure() {
+	if s.isSecure() {
 		scheme = "https://"
 	}
-	return scheme + own.listen, nil
+	return scheme + s.listen, nil
 }
 
 // open is how many connections there are.
-func (own *servingSettings) open() int {
-	if server := own.server.Load(); server != nil {
+func (s *servingSettings) open() int {
+	if server := s.server.Load(); server != nil {
 		return server.Connections()
 	}
 	return 0
 }
 
 // most is how many connections there may be: fewer than the system allows files.
-func (own *servingSettings) most() int {
+func (s *servingSettings) most() int {
 	var files unix.Rlimit
-	if unix.Getrlimit(unix.RLIMIT_NOFILE, &files) == nil && files.Max < uint64(own.connections)+beside && files.Max > 2*beside {
+	if unix.Getrlimit(unix.RLIMIT_NOFILE, &files) == nil && files.Max < uint64(s.connections)+beside && files.Max > 2*beside {
 		return int(files.Max - beside)
 	}
-	return int(own.connections)
+	return int(s.connections)
 }
 
 // mostRequests is how many requests may be under way: at most on half of the connections, so that there are others which can make room.
-func (own *servingSettings) mostRequests() int {
-	if half := own.most() / 2; half < int(own.requests) {
+func (s *servingSettings) mostRequests() int {
+	if half := s.most() / 2; half < int(s.requests) {
 		return half
 	}
-	return int(own.requests)
+	return int(s.requests)
 }
 
 // run listens, and runs the process until the context ends or the process does. Then what is under way is answered.
-func (own *servingSettings) run(ctx context.Context, log *logs.Log, handler serve.Handler, run func(context.Context) error) error {
-	secure, err := own.secure(log)
+func (s *servingSettings) run(ctx context.Context, log *logs.Log, handler serve.Handler, run func(context.Context) error) error {
+	secure, err := s.secure(log)
 	if err != nil {
 		return err
 	}
-	server, err := listen.Start(own.listen, secure, own.most(), handler, log)
+	server, err := listen.Start(s.listen, secure, s.most(), handler, log)
 	if err != nil {
 		return exit.With(exit.Environment, err)
 	}
-	own.server.Store(server)
-	log.Info("listens", "address", server.Address(), "tls", own.isSecure(), "connections", own.most())
+	s.server.Store(server)
+	log.Info("listens", "address", server.Address(), "tls", s.isSecure(), "connections", s.most())
 	running, stop := context.WithCancel(ctx)
 	defer stop()
 	ended := make(chan error, 1)

@@ -19,13 +19,13 @@ func newEnder() ender {
 	return ender{http.NotFoundHandler(), make(chan struct{}), make(chan struct{}), make(chan struct{})}
 }
 
-func (ender ender) End() { close(ender.ends) }
+func (e ender) End() { close(e.ends) }
 
-func (ender ender) Look() {
+func (e ender) Look() {
 	select {
-	case <-ender.hangs:
-		ender.looks <- struct{}{}
-		<-ender.ends
+	case <-e.hangs:
+		e.looks <- struct{}{}
+		<-e.ends
 	default:
 	}
 }

@@ -4,12 +4,12 @@ import (
 	"context"
 	"errors"
 
-	"ordup-node/internal/fleet"
-	"ordup-node/internal/numbers"
-	"ordup-node/internal/script"
-	"ordup-node/internal/serve"
-	"ordup-node/internal/settings"
-	"ordup-node/internal/site"
+	"ordup.dev/node/internal/fleet"
+	"ordup.dev/node/internal/numbers"
+	"ordup.dev/node/internal/script"
+	"ordup.dev/node/internal/serve"
+	"ordup.dev/node/internal/settings"
+	"ordup.dev/node/internal/site"
 )
 
 // siteOwn are the settings of a site.
@@ -31,28 +31,28 @@ func siteSettings(program *Program, set *settings.Set) func(context.Context, []s
 	return func(ctx context.Context, _ []string) error { return own.run(ctx, program) }
 }
 
-func (own *siteOwn) config(program *Program) (config site.Config, err error) {
-	if err = own.serving.check(program.Log); err != nil {
+func (s *siteOwn) config(program *Program) (config site.Config, err error) {
+	if err = s.serving.check(program.Log); err != nil {
 		return config, err
 	}
-	if (own.fleet == "") != (own.tell == "") {
+	if (s.fleet == "") != (s.tell == "") {
 		return config, wrong("fleet and teller belong together")
 	}
-	if own.tell != "" {
-		own.telling.key, own.telling.addresses = "teller", []string{own.tell}
+	if s.tell != "" {
+		s.telling.key, s.telling.addresses = "teller", []string{s.tell}
 	}
-	teller, err := own.telling.client(program.Log)
+	teller, err := s.telling.client(program.Log)
 	if err != nil {
 		return config, err
 	}
-	config = site.Config{Open: program.Open, Name: own.name, Fleet: own.fleet, Host: own.serving.host, Versions: program.Versions,
+	config = site.Config{Open: program.Open, Name: s.name, Fleet: s.fleet, Host: s.serving.host, Versions: program.Versions,
 		Teller: teller, Log: program.Log}
-	config.Engine, err = own.engine.open(program.Log)
+	config.Engine, err = s.engine.open(program.Log)
 	return config, err
 }
 
-func (own *siteOwn) run(ctx context.Context, program *Program) error {
-	config, err := own.config(program)
+func (s *siteOwn) run(ctx context.Context, program *Program) error {
+	config, err := s.config(program)
 	if err != nil {
 		return err
 	}
@@ -61,16 +61,16 @@ func (own *siteOwn) run(ctx context.Context, program *Program) error {
 	if err != nil {
 		return err
 	}
-	seen := numbers.OfSite(program.version(), own.name, own.serving.open, process.Status)
-	handler := serve.NewSite(serve.Config{Guard: &own.serving.guard, Requests: own.serving.mostRequests(),
+	seen := numbers.OfSite(program.version(), s.name, s.serving.open, process.Status)
+	handler := serve.NewSite(serve.Config{Guard: &s.serving.guard, Requests: s.serving.mostRequests(),
 		Ready: func() error {
 			if !process.Status().Serves {
 				return site.ErrNotServing
 			}
 			return nil
-		}, Numbers: seen.Handler(), Page: numbers.PageOfSite(own.name, process.Status)}, own.name, process)
-	program.Log.Info("starts", "command", "site", "version", program.version(), "host", config.Host, "site", own.name)
-	return own.serving.run(ctx, program.Log, handler, process.Run)
+		}, Numbers: seen.Handler(), Page: numbers.PageOfSite(s.name, process.Status)}, s.name, process)
+	program.Log.Info("starts", "command", "site", "version", program.version(), "host", config.Host, "site", s.name)
+	return s.serving.run(ctx, program.Log, handler, process.Run)
 }
 
 // fleetOwn are the settings of a fleet.
@@ -92,39 +92,39 @@ func fleetSettings(program *Program, set *settings.Set) func(context.Context, []
 	return func(ctx context.Context, _ []string) error { return own.run(ctx, program) }
 }
 
-func (own *fleetOwn) run(ctx context.Context, program *Program) error {
-	if err := own.serving.check(program.Log); err != nil {
+func (f *fleetOwn) run(ctx context.Context, program *Program) error {
+	if err := f.serving.check(program.Log); err != nil {
 		return err
 	}
-	for _, name := range append([]string{own.name}, own.members...) {
+	for _, name := range append([]string{f.name}, f.members...) {
 		if !script.IsName(name) {
 			return wrong("fleet and members: %.40q is no name of a site", name)
 		}
 	}
-	if len(own.members) == 0 {
+	if len(f.members) == 0 {
 		return wrong("members: the sites of the fleet are missing")
 	}
-	for _, name := range own.members {
-		if name == own.name {
+	for _, name := range f.members {
+		if name == f.name {
 			return wrong("members: the site %s has the name of its fleet", name)
 		}
 	}
-	teller, err := own.telling.client(program.Log)
+	teller, err := f.telling.client(program.Log)
 	if err != nil {
 		return err
 	}
-	keys, err := own.engine.open(program.Log)
+	keys, err := f.engine.open(program.Log)
 	if err != nil {
 		return err
 	}
 	defer keys.Close()
-	process := fleet.New(own.name, own.members, teller)
-	seen := numbers.OfFleet(program.version(), own.serving.open, process.Status)
-	handler := serve.NewFleet(serve.Config{Guard: &own.serving.guard, Requests: own.serving.mostRequests(),
+	process := fleet.New(f.name, f.members, teller)
+	seen := numbers.OfFleet(program.version(), f.serving.open, process.Status)
+	handler := serve.NewFleet(serve.Config{Guard: &f.serving.guard, Requests: f.serving.mostRequests(),
 		Ready: func() error { return haveTold(process.Status()) }, Numbers: seen.Handler(),
-		Page: numbers.PageOfFleet(own.name, process.Status)}, process)
-	program.Log.Info("starts", "command", "fleet", "version", program.version(), "host", own.serving.host, "fleet", own.name)
-	return own.serving.run(ctx, program.Log, handler, func(ctx context.Context) error { return process.Run(ctx, keys, program.Log) })
+		Page: numbers.PageOfFleet(f.name, process.Status)}, process)
+	program.Log.Info("starts", "command", "fleet", "version", program.version(), "host", f.serving.host, "fleet", f.name)
+	return f.serving.run(ctx, program.Log, handler, func(ctx context.Context) error { return process.Run(ctx, keys, program.Log) })
 }
 
 // haveTold is nil once each site of a fleet has told a place, and nobody else serves as one.

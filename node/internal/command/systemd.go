@@ -7,7 +7,7 @@ import (
 	"strconv"
 	"time"
 
-	"ordup-node/internal/clock"
+	"ordup.dev/node/internal/clock"
 )
 
 // tellSystemd tells systemd a state of the process, where it asks for that: `READY=1` once it listens, `STOPPING=1` once it ends.

@@ -9,45 +9,45 @@ import (
 	"testing"
 	"time"
 
-	"ordup-node/internal/archive"
-	"ordup-node/internal/etcdtest"
-	"ordup-node/internal/exit"
+	"ordup.dev/node/internal/archive"
+	"ordup.dev/node/internal/etcdtest"
+	"ordup.dev/node/internal/exit"
 )
 
 var older, newer = []string{"1.0"}, []string{"1.1~dev", "1.0"}
 
 // replaceAll has each process end, and starts it anew by a program of these versions: the primary that writes comes last.
-func (deployment *deployment) replaceAll(versions []string) {
-	deployment.t.Helper()
-	deployment.versions = versions
+func (d *deployment) replaceAll(versions []string) {
+	d.t.Helper()
+	d.versions = versions
 	primaries := []string{"p1", "p2"}
-	if deployment.has("p1", "/metrics", "\nordup_primary_writes 1\n") {
+	if d.has("p1", "/metrics", "\nordup_primary_writes 1\n") {
 		primaries = []string{"p2", "p1"}
 	}
 	for _, name := range append([]string{"north", "far", "east"}, primaries...) {
-		if status, log := deployment.stops[name](); status != exit.Done {
-			deployment.t.Error(name, status, log)
+		if status, log := d.stops[name](); status != exit.Done {
+			d.t.Error(name, status, log)
 		}
-		deployment.start(name, deployment.words[name]...)
+		d.start(name, d.words[name]...)
 	}
 	for _, name := range primaries {
-		deployment.until(func() bool { return deployment.has(name, "/readyz", "ok") })
+		d.until(func() bool { return d.has(name, "/readyz", "ok") })
 	}
 }
 
 // word is what a process was started with behind a word, at last.
-func (deployment *deployment) word(name, before string) (found string) {
-	for at, word := range deployment.words[name] {
+func (d *deployment) word(name, before string) (found string) {
+	for at, word := range d.words[name] {
 		if word == before {
-			found = deployment.words[name][at+1]
+			found = d.words[name][at+1]
 		}
 	}
 	return found
 }
 
 // has is whether a primary answers well at a path, with this in its answer.
-func (deployment *deployment) has(name, path, part string) bool {
-	answer, err := http.Get("http://" + deployment.word(name, "--listen") + path)
+func (d *deployment) has(name, path, part string) bool {
+	answer, err := http.Get("http://" + d.word(name, "--listen") + path)
 	if err != nil {
 		return false
 	}
@@ -56,21 +56,21 @@ func (deployment *deployment) has(name, path, part string) bool {
 	return answer.StatusCode == http.StatusOK && strings.Contains(string(said), part)
 }
 
-func (deployment *deployment) until(is func() bool) {
-	deployment.t.Helper()
+func (d *deployment) until(is func() bool) {
+	d.t.Helper()
 	for tries := 0; !is(); tries++ {
 		if tries == 400 {
-			deployment.t.Fatal("it does not come")
+			d.t.Fatal("it does not come")
 		}
 		time.Sleep(50 * time.Millisecond)
 	}
 }
 
 // beside starts one more primary or site with the words of another one, by a program of these versions.
-func (deployment *deployment) beside(name string, versions []string, like string) {
-	deployment.versions = versions
-	words := append([]string{}, deployment.words[like]...)
-	deployment.start(name, append(words, "--host", name, "--listen", etcdtest.FreePort(deployment.t))...)
+func (d *deployment) beside(name string, versions []string, like string) {
+	d.versions = versions
+	words := append([]string{}, d.words[like]...)
+	d.start(name, append(words, "--host", name, "--listen", etcdtest.FreePort(d.t))...)
 }
 
 // All processes come to a new version while clients ask, and go back to the old one. The script is run by the new version in between.

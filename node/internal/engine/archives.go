@@ -14,14 +14,14 @@ type Archive struct {
 	From, Before int64
 }
 
-func (archive *Archive) value() string {
-	return fmt.Sprintf("%s %d %d", archive.Digest, archive.From, archive.Before)
+func (a *Archive) value() string {
+	return fmt.Sprintf("%s %d %d", a.Digest, a.From, a.Before)
 }
 
 // Archives gives the archives that hosts have of epochs whose entries the engine still has, by epoch and host.
-func (engine *Engine) Archives(ctx context.Context) (map[int64]map[string]Archive, error) {
+func (e *Engine) Archives(ctx context.Context) (map[int64]map[string]Archive, error) {
 	archives := map[int64]map[string]Archive{}
-	err := engine.call(ctx, CallTime, func(ctx context.Context, client *clientv3.Client) error {
+	err := e.call(ctx, CallTime, func(ctx context.Context, client *clientv3.Client) error {
 		found, err := client.Get(ctx, archiveKeys, clientv3.WithPrefix())
 		if err != nil {
 			return err
@@ -44,8 +44,8 @@ func (engine *Engine) Archives(ctx context.Context) (map[int64]map[string]Archiv
 }
 
 // PutArchive says that a host has an archive, while the engine has its entries.
-func (engine *Engine) PutArchive(ctx context.Context, epoch int64, host string, archive Archive) error {
-	return engine.call(ctx, CallTime, func(ctx context.Context, client *clientv3.Client) error {
+func (e *Engine) PutArchive(ctx context.Context, epoch int64, host string, archive Archive) error {
+	return e.call(ctx, CallTime, func(ctx context.Context, client *clientv3.Client) error {
 		_, err := client.Txn(ctx).If(clientv3.Compare(clientv3.CreateRevision(entryKey(archive.From)), ">", 0)).
 			Then(clientv3.OpPut(archiveKey(epoch, host), archive.value())).Commit()
 		return err
@@ -54,13 +54,13 @@ func (engine *Engine) PutArchive(ctx context.Context, epoch int64, host string, 
 
 // RemoveEpoch takes the entries of an epoch out of the engine, where these hosts have this archive, with the keys of its archives and
 // what the engine keeps of the past. The epoch has ended. It returns whether it did.
-func (engine *Engine) RemoveEpoch(ctx context.Context, epoch int64, hosts []string, archive Archive) (bool, error) {
+func (e *Engine) RemoveEpoch(ctx context.Context, epoch int64, hosts []string, archive Archive) (bool, error) {
 	holds := []clientv3.Cmp{}
 	for _, host := range hosts {
 		holds = append(holds, clientv3.Compare(clientv3.Value(archiveKey(epoch, host)), "=", archive.value()))
 	}
 	var done *clientv3.TxnResponse
-	err := engine.call(ctx, CallTime, func(ctx context.Context, client *clientv3.Client) (err error) {
+	err := e.call(ctx, CallTime, func(ctx context.Context, client *clientv3.Client) (err error) {
 		done, err = client.Txn(ctx).If(holds...).Then(
 			clientv3.OpDelete(entryKey(archive.From), clientv3.WithRange(entryKey(archive.Before))),
 			clientv3.OpDelete(archiveKey(epoch, ""), clientv3.WithPrefix())).Commit()
@@ -69,7 +69,7 @@ func (engine *Engine) RemoveEpoch(ctx context.Context, epoch int64, hosts []stri
 	if err != nil || !done.Succeeded {
 		return false, err
 	}
-	err = engine.call(ctx, CallTime, func(ctx context.Context, client *clientv3.Client) error {
+	err = e.call(ctx, CallTime, func(ctx context.Context, client *clientv3.Client) error {
 		_, err := client.Compact(ctx, done.Header.Revision)
 		return err
 	})

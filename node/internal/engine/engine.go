@@ -40,68 +40,71 @@ type Config struct {
 // for that has one of its own.
 type Engine struct {
 	config   Config
-	failures int64
-	lock     sync.Mutex
-	at       int
-	client   *clientv3.Client
-	closed   bool
-	pages    pages
+	failures atomic.Int64
+	// Under a lock of their own.
+	pages pages
+
+	// What stands below lock is under it: the member that is asked now, and its client.
+	lock   sync.Mutex
+	at     int
+	client *clientv3.Client
+	closed bool
 }
 
 // Open gives an engine, which connects when it is asked.
 func Open(config Config) *Engine { return &Engine{config: config, pages: newPages()} }
 
 // Apart gives another one for the same members, with a connection of its own.
-func (engine *Engine) Apart() *Engine {
-	apart := Open(engine.config)
-	engine.lock.Lock()
-	defer engine.lock.Unlock()
-	apart.at = engine.at
+func (e *Engine) Apart() *Engine {
+	apart := Open(e.config)
+	e.lock.Lock()
+	defer e.lock.Unlock()
+	apart.at = e.at
 	return apart
 }
 
 // Failures is how many calls members have failed.
-func (engine *Engine) Failures() int64 { return atomic.LoadInt64(&engine.failures) }
+func (e *Engine) Failures() int64 { return e.failures.Load() }
 
 // Close ends the connection, and with it all calls.
-func (engine *Engine) Close() {
-	engine.lock.Lock()
-	defer engine.lock.Unlock()
-	engine.closed = true
-	if engine.client != nil {
-		engine.client.Close()
-		engine.client = nil
+func (e *Engine) Close() {
+	e.lock.Lock()
+	defer e.lock.Unlock()
+	e.closed = true
+	if e.client != nil {
+		e.client.Close()
+		e.client = nil
 	}
 }
 
 // connected gives the client of the member that is asked now.
-func (engine *Engine) connected() (*clientv3.Client, string, error) {
-	engine.lock.Lock()
-	defer engine.lock.Unlock()
-	member := engine.config.Members[engine.at]
-	if engine.closed {
+func (e *Engine) connected() (*clientv3.Client, string, error) {
+	e.lock.Lock()
+	defer e.lock.Unlock()
+	member := e.config.Members[e.at]
+	if e.closed {
 		return nil, member, context.Canceled
 	}
-	if engine.client == nil {
-		client, err := clientv3.New(engine.settings(member))
+	if e.client == nil {
+		client, err := clientv3.New(e.settings(member))
 		if err != nil {
 			return nil, member, err
 		}
-		engine.client = client
+		e.client = client
 	}
-	return engine.client, member, nil
+	return e.client, member, nil
 }
 
 // settings are those of a client. It asks once, and writes no log: what failed is told by the error.
-func (engine *Engine) settings(member string) clientv3.Config {
+func (e *Engine) settings(member string) clientv3.Config {
 	quiet := zap.NewProductionConfig()
 	quiet.Level, quiet.OutputPaths, quiet.ErrorOutputPaths = zap.NewAtomicLevelAt(zap.FatalLevel), nil, nil
-	once := func(ctx context.Context, method string, asked, reply interface{}, to *grpc.ClientConn, ask grpc.UnaryInvoker,
+	once := func(ctx context.Context, method string, asked, reply any, to *grpc.ClientConn, ask grpc.UnaryInvoker,
 		options ...grpc.CallOption) error {
 		return ask(ctx, method, asked, reply, to, options...)
 	}
 	return clientv3.Config{
-		Endpoints: []string{member}, TLS: engine.config.TLS, Username: engine.config.User, Password: engine.config.Password,
+		Endpoints: []string{member}, TLS: e.config.TLS, Username: e.config.User, Password: e.config.Password,
 		DialTimeout: CallTime, DialKeepAliveTime: keepAlive, DialKeepAliveTimeout: keepAlive, PermitWithoutStream: true,
 		MaxCallRecvMsgSize: mostReceived, MaxCallSendMsgSize: mostSent, LogConfig: &quiet,
 		DialOptions: []grpc.DialOption{grpc.WithUnaryInterceptor(once)},
@@ -109,8 +112,8 @@ func (engine *Engine) settings(member string) clientv3.Config {
 }
 
 // call asks the member. Where it fails, the next call goes to the next one. Where the context of the caller ends, that is the error.
-func (engine *Engine) call(ctx context.Context, most time.Duration, ask func(context.Context, *clientv3.Client) error) error {
-	client, member, err := engine.connected()
+func (e *Engine) call(ctx context.Context, most time.Duration, ask func(context.Context, *clientv3.Client) error) error {
+	client, member, err := e.connected()
 	if err == nil {
 		limited, cancel := context.WithTimeout(clientv3.WithRequireLeader(ctx), most)
 		defer cancel()
@@ -124,21 +127,21 @@ func (engine *Engine) call(ctx context.Context, most time.Duration, ask func(con
 	}
 	err = errorOf(member, err)
 	if IsAway(err) && !IsFull(err) {
-		engine.leave(client)
+		e.leave(client)
 	}
 	return err
 }
 
 // leave goes on to the next member, if nobody did so since this client was asked.
-func (engine *Engine) leave(client *clientv3.Client) {
-	atomic.AddInt64(&engine.failures, 1)
-	engine.lock.Lock()
-	defer engine.lock.Unlock()
-	if engine.client != client || engine.closed {
+func (e *Engine) leave(client *clientv3.Client) {
+	e.failures.Add(1)
+	e.lock.Lock()
+	defer e.lock.Unlock()
+	if e.client != client || e.closed {
 		return
 	}
 	if client != nil {
 		go client.Close()
 	}
-	engine.client, engine.at = nil, (engine.at+1)%len(engine.config.Members)
+	e.client, e.at = nil, (e.at+1)%len(e.config.Members)
 }

@@ -9,8 +9,8 @@ import (
 	"testing"
 	"time"
 
-	"ordup-node/internal/engine"
-	"ordup-node/internal/etcdtest"
+	"ordup.dev/node/internal/engine"
+	"ordup.dev/node/internal/etcdtest"
 )
 
 func within(t *testing.T, most time.Duration) context.Context {
@@ -19,7 +19,7 @@ func within(t *testing.T, most time.Duration) context.Context {
 	return ctx
 }
 
-func is(t *testing.T, wants, has interface{}) {
+func is(t *testing.T, wants, has any) {
 	t.Helper()
 	if fmt.Sprint(wants) != fmt.Sprint(has) {
 		t.Errorf("%v instead of %v", has, wants)
@@ -48,14 +48,14 @@ func TestAnEntryIsWrittenOnce(t *testing.T) {
 	is(t, nil, write(t, one, 3, "c", "sout", "south2", "north"))
 	is(t, nil, one.Write(ctx, &engine.Write{Number: 4, Text: []byte("d"), Epoch: 2, First: 4}))
 	epoch, first, err := other.Epoch(ctx)
-	is(t, []interface{}{2, 4, nil}, []interface{}{epoch, first, err})
+	is(t, []any{2, 4, nil}, []any{epoch, first, err})
 	removed, err := one.RemoveEpoch(ctx, 1, nil, engine.Archive{From: 1, Before: 4})
-	is(t, []interface{}{true, nil}, []interface{}{removed, err})
+	is(t, []any{true, nil}, []any{removed, err})
 	is(t, true, errors.As(write(t, other, 1, "x"), &taken))
 	is(t, true, errors.As(write(t, other, 3, "x"), &taken))
 	is(t, nil, write(t, other, 5, "e"))
 	found, err := one.First(ctx)
-	is(t, []interface{}{4, nil}, []interface{}{found, err})
+	is(t, []any{4, nil}, []any{found, err})
 }
 
 // A write may come when its whole epoch was archived and removed, and the last entry of the epoch before was not.
@@ -69,14 +69,14 @@ func TestAWriteThatIsLateByAnEpochIsRefused(t *testing.T) {
 		is(t, nil, own.Write(ctx, write)) // The answer was lost.
 	}
 	removed, err := own.RemoveEpoch(ctx, 2, nil, engine.Archive{From: 3, Before: 5})
-	is(t, []interface{}{true, nil}, []interface{}{removed, err})
+	is(t, []any{true, nil}, []any{removed, err})
 	for _, late := range []*engine.Write{{Number: 3, Last: 1, Since: 1}, {Number: 3, Epoch: 2, First: 3, Last: 1, Since: 1}, {Number: 6, Last: 2, Since: 3}} {
 		late.Text = []byte("late")
 		var taken *engine.TakenError
 		is(t, true, errors.As(own.Write(ctx, late), &taken))
 	}
 	epoch, first, err := own.Epoch(ctx)
-	is(t, []interface{}{3, 5, nil}, []interface{}{epoch, first, err})
+	is(t, []any{3, 5, nil}, []any{epoch, first, err})
 }
 
 func TestKeysOfAnyBytesArePassedOver(t *testing.T) {
@@ -105,11 +105,11 @@ func TestKeysOfAnyBytesArePassedOver(t *testing.T) {
 	}
 	is(t, 31, next)
 	last, err := own.Last(ctx, 7)
-	is(t, []interface{}{30, nil}, []interface{}{last, err})
+	is(t, []any{30, nil}, []any{last, err})
 	first, err := own.First(ctx)
-	is(t, []interface{}{1, nil}, []interface{}{first, err})
+	is(t, []any{1, nil}, []any{first, err})
 	archives, err := own.Archives(ctx)
-	is(t, []interface{}{0, nil}, []interface{}{len(archives), err})
+	is(t, []any{0, nil}, []any{len(archives), err})
 	members.Put("epoch", "\xff")
 	_, _, err = own.Epoch(ctx)
 	var wrong *engine.WrongError
@@ -229,7 +229,7 @@ func TestOneProcessHasALease(t *testing.T) {
 	other, stopOther, doneOther := run("other")
 	is(t, false, holds(other, time.Second))
 	held, err := own.Holds(within(t, 5*time.Second), "far")
-	is(t, []interface{}{1, true, "site/far/east", nil}, []interface{}{len(held), held[0].IsLeased, held[0].Key, err})
+	is(t, []any{1, true, "site/far/east", nil}, []any{len(held), held[0].IsLeased, held[0].Key, err})
 	stopOne()
 	<-doneOne
 	is(t, false, one.Lives(1))
@@ -244,7 +244,7 @@ func TestOneProcessHasALease(t *testing.T) {
 	stopOther()
 	<-doneOther
 	held, err = own.Holds(within(t, 5*time.Second), "far")
-	is(t, []interface{}{0, nil}, []interface{}{len(held), err})
+	is(t, []any{0, nil}, []any{len(held), err})
 }
 
 func TestAHoldIsRemovedAsItIs(t *testing.T) {
@@ -254,12 +254,12 @@ func TestAHoldIsRemovedAsItIs(t *testing.T) {
 		members.Put(key, "by hand")
 	}
 	holds, err := own.Holds(ctx, "far")
-	is(t, []interface{}{2, "site/far/", false, "site/far/\xff", nil}, []interface{}{len(holds), holds[0].Key, holds[0].IsLeased, holds[1].Key, err})
+	is(t, []any{2, "site/far/", false, "site/far/\xff", nil}, []any{len(holds), holds[0].Key, holds[0].IsLeased, holds[1].Key, err})
 	members.Put("site/far/", "again")
 	for at, hold := range holds {
 		removed, err := own.RemoveHold(ctx, hold)
-		is(t, []interface{}{at == 1, nil}, []interface{}{removed, err})
+		is(t, []any{at == 1, nil}, []any{removed, err})
 	}
 	holds, err = own.Holds(ctx, "far")
-	is(t, []interface{}{1, nil}, []interface{}{len(holds), err})
+	is(t, []any{1, nil}, []any{len(holds), err})
 }

@@ -6,7 +6,7 @@ import (
 
 	"go.etcd.io/etcd/etcdserver/api/v3rpc/rpctypes"
 
-	"ordup-node/internal/exit"
+	"ordup.dev/node/internal/exit"
 )
 
 // An AwayError says that a member could not be reached, was too slow, or has no majority. Whether a write was taken is not known. The
@@ -18,38 +18,38 @@ type AwayError struct {
 	Full bool
 }
 
-func (err *AwayError) Error() string {
-	if err.Full {
+func (e *AwayError) Error() string {
+	if e.Full {
 		return "the engine is full, and takes no write"
 	}
-	return fmt.Sprintf("the engine's member %s: %s", err.Member, err.Cause)
+	return fmt.Sprintf("the engine's member %s: %s", e.Member, e.Cause)
 }
 
 // Unwrap is why the member is away.
-func (err *AwayError) Unwrap() error { return err.Cause }
+func (e *AwayError) Unwrap() error { return e.Cause }
 
 // A WrongError says that the engine will never do what it was asked: a wrong user, or a key that is not of the deployment.
 type WrongError struct{ Why string }
 
-func (err *WrongError) Error() string { return err.Why }
+func (e *WrongError) Error() string { return e.Why }
 
 // A TakenError says that another process has written an entry of this number, or that the script goes on without it.
 type TakenError struct{ Why string }
 
-func (err *TakenError) Error() string { return err.Why }
+func (e *TakenError) Error() string { return e.Why }
 
 // A ServedError says that a site which must have no lease has one, so nothing was written.
 type ServedError struct{ Sites []string }
 
-func (err *ServedError) Error() string {
-	return fmt.Sprintf("of the sites %v a process has a lease", err.Sites)
+func (e *ServedError) Error() string {
+	return fmt.Sprintf("of the sites %v a process has a lease", e.Sites)
 }
 
 // A MissingError says that the script lacks an entry.
 type MissingError struct{ Number int64 }
 
-func (err *MissingError) Error() string {
-	return fmt.Sprintf("the script lacks the entry %d", err.Number)
+func (e *MissingError) Error() string {
+	return fmt.Sprintf("the script lacks the entry %d", e.Number)
 }
 
 // ExitStatus is that of a process which meets it.

@@ -19,7 +19,7 @@ const (
 // Follow gives the entries from a number on to a function, some at a time, as they come. It first reads what is there, and then watches
 // from that revision on. Where the past was compacted meanwhile, it reads again. It returns the error of the function, or an AwayError:
 // then it may be called again from the next number on. An entry that was there and is written again is a ChangedError.
-func (engine *Engine) Follow(ctx context.Context, from int64, take func([]Raw) error) error {
+func (e *Engine) Follow(ctx context.Context, from int64, take func([]Raw) error) error {
 	next := from
 	takes := func(entries []Raw) error {
 		for _, entry := range entries {
@@ -34,9 +34,9 @@ func (engine *Engine) Follow(ctx context.Context, from int64, take func([]Raw) e
 		return take(entries)
 	}
 	for {
-		revision, err := engine.ReadAll(ctx, next, takes)
+		revision, err := e.ReadAll(ctx, next, takes)
 		if err == nil {
-			err = engine.watch(ctx, &next, revision+1, takes)
+			err = e.watch(ctx, &next, revision+1, takes)
 		}
 		if !errors.Is(err, errCompacted) {
 			return err
@@ -46,8 +46,8 @@ func (engine *Engine) Follow(ctx context.Context, from int64, take func([]Raw) e
 
 // watch gives what is put from a revision on. What it should have told and did not is to be read, which is said by errCompacted. Client.Watch
 // returns once a member has answered.
-func (engine *Engine) watch(ctx context.Context, next *int64, revision int64, takes func([]Raw) error) error {
-	client, member, err := engine.connected()
+func (e *Engine) watch(ctx context.Context, next *int64, revision int64, takes func([]Raw) error) error {
+	client, member, err := e.connected()
 	if err != nil {
 		return errorOf(member, err)
 	}
@@ -66,18 +66,19 @@ func (engine *Engine) watch(ctx context.Context, next *int64, revision int64, ta
 			return ctx.Err()
 		case came, isOpen := <-events:
 			if !isOpen || came.Err() != nil {
-				return engine.watchEnded(ctx, client, member, came.Err())
+				return e.watchEnded(ctx, client, member, came.Err())
 			}
 			if err := takes(putsOf(came.Events)); err != nil {
 				return err
 			}
 			looks = 0
 		case <-look.C:
-			last, err := engine.Last(ctx, *next)
+			last, err := e.Last(ctx, *next)
 			if err != nil {
 				return err
 			}
-			if looks++; last < *next {
+			looks++
+			if last < *next {
 				looks = 0
 			}
 		}
@@ -85,7 +86,7 @@ func (engine *Engine) watch(ctx context.Context, next *int64, revision int64, ta
 	return errCompacted
 }
 
-func (engine *Engine) watchEnded(ctx context.Context, client *clientv3.Client, member string, err error) error {
+func (e *Engine) watchEnded(ctx context.Context, client *clientv3.Client, member string, err error) error {
 	if ctx.Err() != nil {
 		return ctx.Err()
 	}
@@ -93,7 +94,7 @@ func (engine *Engine) watchEnded(ctx context.Context, client *clientv3.Client, m
 		err = errors.New("a watch ended")
 	}
 	if err = errorOf(member, err); IsAway(err) {
-		engine.leave(client)
+		e.leave(client)
 	}
 	return err
 }

@@ -8,8 +8,8 @@ import (
 	"testing"
 	"time"
 
-	"ordup-node/internal/engine"
-	"ordup-node/internal/etcdtest"
+	"ordup.dev/node/internal/engine"
+	"ordup.dev/node/internal/etcdtest"
 )
 
 // silence has a watch tell nothing any more, on a link that carries all else. If it began, it has told that it did.
@@ -64,7 +64,7 @@ func TestAMarkIsOfTheEntryThatWasRun(t *testing.T) {
 	var mark engine.Mark
 	mark.Set(2, []byte("b"))
 	first, err := own.Resume(ctx, &mark)
-	is(t, []interface{}{1, nil}, []interface{}{first, err})
+	is(t, []any{1, nil}, []any{first, err})
 	members.Put("script/000000000002", "c") // As where the script was restored from a past, and written on.
 	_, err = own.Resume(ctx, &mark)
 	var changed *engine.ChangedError

@@ -17,9 +17,9 @@ type Hold struct {
 const mostHolds = 100
 
 // Holds gives the keys under the name of a site, or of a fleet.
-func (engine *Engine) Holds(ctx context.Context, fleet string) ([]Hold, error) {
+func (e *Engine) Holds(ctx context.Context, fleet string) ([]Hold, error) {
 	holds := []Hold{}
-	err := engine.call(ctx, CallTime, func(ctx context.Context, client *clientv3.Client) error {
+	err := e.call(ctx, CallTime, func(ctx context.Context, client *clientv3.Client) error {
 		from, to := keysOf(fleet)
 		found, err := client.Get(ctx, from, clientv3.WithRange(to), clientv3.WithKeysOnly(), clientv3.WithLimit(mostHolds))
 		if err != nil {
@@ -34,9 +34,9 @@ func (engine *Engine) Holds(ctx context.Context, fleet string) ([]Hold, error) {
 }
 
 // RemoveHold takes a key away, if it is as it was given. It returns whether it did.
-func (engine *Engine) RemoveHold(ctx context.Context, hold Hold) (bool, error) {
+func (e *Engine) RemoveHold(ctx context.Context, hold Hold) (bool, error) {
 	removed := false
-	err := engine.call(ctx, CallTime, func(ctx context.Context, client *clientv3.Client) error {
+	err := e.call(ctx, CallTime, func(ctx context.Context, client *clientv3.Client) error {
 		done, err := client.Txn(ctx).If(clientv3.Compare(clientv3.ModRevision(hold.Key), "=", hold.revision)).
 			Then(clientv3.OpDelete(hold.Key)).Commit()
 		removed = err == nil && done.Succeeded

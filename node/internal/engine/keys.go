@@ -5,7 +5,7 @@ import (
 	"strconv"
 	"strings"
 
-	"ordup-node/internal/exit"
+	"ordup.dev/node/internal/exit"
 )
 
 // The keys of a deployment:

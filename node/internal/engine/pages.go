@@ -28,43 +28,44 @@ type pages struct {
 func newPages() pages { return pages{bytes: firstPage, entry: firstEntry, time: CallTime} }
 
 // next is how many entries the next page has, and how long it may take.
-func (pages *pages) next() (int64, time.Duration) {
-	pages.lock.Lock()
-	defer pages.lock.Unlock()
-	count := pages.bytes / pages.entry
+func (p *pages) next() (int64, time.Duration) {
+	p.lock.Lock()
+	defer p.lock.Unlock()
+	count := p.bytes / p.entry
 	if count < 1 {
 		count = 1
 	}
 	if count > mostEntries {
 		count = mostEntries
 	}
-	return int64(count), pages.time
+	return int64(count), p.time
 }
 
 // came says that a page of so many entries and bytes came after a time.
-func (pages *pages) came(entries, bytes int, after time.Duration) {
+func (p *pages) came(entries, bytes int, after time.Duration) {
 	if entries == 0 {
 		return
 	}
-	pages.lock.Lock()
-	defer pages.lock.Unlock()
-	pages.entry = bytes/entries + 1
-	if after < CallTime/8 && pages.bytes < mostPage {
-		pages.bytes *= 2
+	p.lock.Lock()
+	defer p.lock.Unlock()
+	p.entry = bytes/entries + 1
+	if after < CallTime/8 && p.bytes < mostPage {
+		p.bytes *= 2
 	}
 	if after < CallTime/2 {
-		pages.time = CallTime
+		p.time = CallTime
 	}
 }
 
 // failed says that a page did not come.
-func (pages *pages) failed() {
-	pages.lock.Lock()
-	defer pages.lock.Unlock()
-	if pages.bytes > leastPage {
-		pages.bytes /= 4
+func (p *pages) failed() {
+	p.lock.Lock()
+	defer p.lock.Unlock()
+	if p.bytes > leastPage {
+		p.bytes /= 4
 	}
-	if pages.time *= 2; pages.time > mostTime {
-		pages.time = mostTime
+	p.time *= 2
+	if p.time > mostTime {
+		p.time = mostTime
 	}
 }

@@ -15,16 +15,16 @@ type Raw struct {
 }
 
 // Epoch gives the last epoch and the number of its first entry. Before there is one that is 0 and 1.
-func (engine *Engine) Epoch(ctx context.Context) (epoch, first int64, err error) {
-	value, isThere, err := engine.value(ctx, epochKey)
+func (e *Engine) Epoch(ctx context.Context) (epoch, first int64, err error) {
+	value, isThere, err := e.value(ctx, epochKey)
 	if err != nil || !isThere {
 		return 0, 1, err
 	}
 	return epochOf(value)
 }
 
-func (engine *Engine) value(ctx context.Context, key string) (value []byte, isThere bool, err error) {
-	err = engine.call(ctx, CallTime, func(ctx context.Context, client *clientv3.Client) error {
+func (e *Engine) value(ctx context.Context, key string) (value []byte, isThere bool, err error) {
+	err = e.call(ctx, CallTime, func(ctx context.Context, client *clientv3.Client) error {
 		found, err := client.Get(ctx, key)
 		if err == nil && len(found.Kvs) > 0 {
 			value, isThere = found.Kvs[0].Value, true
@@ -35,26 +35,27 @@ func (engine *Engine) value(ctx context.Context, key string) (value []byte, isTh
 }
 
 // Writer gives the value of the key `primary`: who writes, or "" where nobody does.
-func (engine *Engine) Writer(ctx context.Context) (string, error) {
-	value, _, err := engine.value(ctx, PrimaryKey)
+func (e *Engine) Writer(ctx context.Context) (string, error) {
+	value, _, err := e.value(ctx, PrimaryKey)
 	return string(value), err
 }
 
 // Entry gives the entry of a number, and whether it is there.
-func (engine *Engine) Entry(ctx context.Context, number int64) ([]byte, bool, error) {
-	return engine.value(ctx, entryKey(number))
+func (e *Engine) Entry(ctx context.Context, number int64) ([]byte, bool, error) {
+	return e.value(ctx, entryKey(number))
 }
 
 // Entries gives a page of the entries from a number on, whether there are more, and the revision at which they were read. That is the
 // given one, where there is one. A key that is no entry is passed over.
-func (engine *Engine) Entries(ctx context.Context, from, revision int64) (entries []Raw, more bool, at int64, err error) {
+func (e *Engine) Entries(ctx context.Context, from, revision int64) (entries []Raw, more bool, at int64, err error) {
 	key := entryKey(from)
 	for {
-		found, err := engine.page(ctx, key, revision)
+		found, err := e.page(ctx, key, revision)
 		if err != nil {
 			return nil, false, 0, err
 		}
-		if entries = entriesOf(found.Kvs); revision == 0 {
+		entries = entriesOf(found.Kvs)
+		if revision == 0 {
 			revision = found.Header.Revision
 		}
 		if len(entries) > 0 || !found.More {
@@ -74,14 +75,14 @@ type page struct {
 
 // ReadAll gives all entries from a number on to a function, a page at a time. The next page is on its way while one is taken. It returns
 // the revision up to which all is read.
-func (engine *Engine) ReadAll(ctx context.Context, from int64, take func([]Raw) error) (revision int64, err error) {
+func (e *Engine) ReadAll(ctx context.Context, from int64, take func([]Raw) error) (revision int64, err error) {
 	reading, cancel := context.WithCancel(ctx)
 	defer cancel()
 	pages := make(chan page)
 	go func() {
 		defer close(pages)
 		for read := (page{more: true}); read.more && read.err == nil; {
-			read.entries, read.more, read.revision, read.err = engine.Entries(reading, from, 0)
+			read.entries, read.more, read.revision, read.err = e.Entries(reading, from, 0)
 			if count := len(read.entries); count > 0 {
 				from = read.entries[count-1].Number + 1
 			}
@@ -114,17 +115,17 @@ func entriesOf(keys []*mvccpb.KeyValue) []Raw {
 	return entries
 }
 
-func (engine *Engine) page(ctx context.Context, key string, revision int64) (*clientv3.GetResponse, error) {
-	count, most := engine.pages.next()
+func (e *Engine) page(ctx context.Context, key string, revision int64) (*clientv3.GetResponse, error) {
+	count, most := e.pages.next()
 	var found *clientv3.GetResponse
 	asked := time.Now()
-	err := engine.call(ctx, most, func(ctx context.Context, client *clientv3.Client) (err error) {
+	err := e.call(ctx, most, func(ctx context.Context, client *clientv3.Client) (err error) {
 		found, err = client.Get(ctx, key, clientv3.WithRange(scriptEnd), clientv3.WithLimit(count), clientv3.WithRev(revision))
 		return err
 	})
 	if err != nil {
 		if IsAway(err) {
-			engine.pages.failed()
+			e.pages.failed()
 		}
 		return nil, err
 	}
@@ -132,16 +133,16 @@ func (engine *Engine) page(ctx context.Context, key string, revision int64) (*cl
 	for _, kv := range found.Kvs {
 		bytes += len(kv.Key) + len(kv.Value)
 	}
-	engine.pages.came(len(found.Kvs), bytes, time.Since(asked))
+	e.pages.came(len(found.Kvs), bytes, time.Since(asked))
 	return found, nil
 }
 
 // Last gives the number of the last entry, of those from a number on, or the number before it where there are none.
-func (engine *Engine) Last(ctx context.Context, from int64) (int64, error) {
+func (e *Engine) Last(ctx context.Context, from int64) (int64, error) {
 	key, last := entryKey(from), from-1
 	for {
 		var found *clientv3.GetResponse
-		err := engine.call(ctx, CallTime, func(ctx context.Context, client *clientv3.Client) (err error) {
+		err := e.call(ctx, CallTime, func(ctx context.Context, client *clientv3.Client) (err error) {
 			found, err = client.Get(ctx, key, clientv3.WithRange(scriptEnd), clientv3.WithKeysOnly(), clientv3.WithLimit(mostEntries))
 			return err
 		})
@@ -159,11 +160,11 @@ func (engine *Engine) Last(ctx context.Context, from int64) (int64, error) {
 }
 
 // First gives the number of the first entry that the engine has, or 0.
-func (engine *Engine) First(ctx context.Context) (int64, error) {
+func (e *Engine) First(ctx context.Context) (int64, error) {
 	first, key := int64(0), scriptKeys
 	for first == 0 {
 		var found *clientv3.GetResponse
-		err := engine.call(ctx, CallTime, func(ctx context.Context, client *clientv3.Client) (err error) {
+		err := e.call(ctx, CallTime, func(ctx context.Context, client *clientv3.Client) (err error) {
 			found, err = client.Get(ctx, key, clientv3.WithRange(scriptEnd), clientv3.WithKeysOnly(), clientv3.WithLimit(1))
 			return err
 		})

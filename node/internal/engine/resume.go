@@ -7,7 +7,7 @@ import (
 	"errors"
 	"fmt"
 
-	"ordup-node/internal/exit"
+	"ordup.dev/node/internal/exit"
 )
 
 // ErrLaterEpoch says that the script begins with a later epoch than the one that was run: that one is archived. Whoever ran it begins
@@ -17,8 +17,8 @@ var ErrLaterEpoch = errors.New("the script begins with a later epoch now")
 // A ChangedError says that the script has not what a process has run of it: it was restored from a past, or written by hand.
 type ChangedError struct{ Number int64 }
 
-func (err *ChangedError) Error() string {
-	return fmt.Sprintf("the script has no more the entry %d that this process has run", err.Number)
+func (e *ChangedError) Error() string {
+	return fmt.Sprintf("the script has no more the entry %d that this process has run", e.Number)
 }
 
 // ExitStatus is that of a process which meets it.
@@ -31,36 +31,36 @@ type Mark struct {
 }
 
 // Set marks an entry.
-func (mark *Mark) Set(number int64, text []byte) {
-	mark.number, mark.sum = number, sha256.Sum256(text)
+func (m *Mark) Set(number int64, text []byte) {
+	m.number, m.sum = number, sha256.Sum256(text)
 }
 
 // A Digest tells an entry from others.
 type Digest [8]byte
 
 // String is the digest as it travels.
-func (digest Digest) String() string { return hex.EncodeToString(digest[:]) }
+func (d Digest) String() string { return hex.EncodeToString(d[:]) }
 
 // Number is that of the entry.
-func (mark *Mark) Number() int64 { return mark.number }
+func (m *Mark) Number() int64 { return m.number }
 
 // Digest is that of the entry.
-func (mark *Mark) Digest() (digest Digest) {
-	copy(digest[:], mark.sum[:])
+func (m *Mark) Digest() (digest Digest) {
+	copy(digest[:], m.sum[:])
 	return digest
 }
 
 // Resume looks whether a process may go on behind the entry that it has run last. Else the error is ErrLaterEpoch or a ChangedError. It
 // returns the first entry of the last epoch.
-func (engine *Engine) Resume(ctx context.Context, mark *Mark) (first int64, err error) {
-	_, first, err = engine.Epoch(ctx)
+func (e *Engine) Resume(ctx context.Context, mark *Mark) (first int64, err error) {
+	_, first, err = e.Epoch(ctx)
 	switch {
 	case err != nil || mark.number == 0 || first == mark.number+1:
 		return first, err
 	case first > mark.number:
 		return first, ErrLaterEpoch
 	}
-	text, isThere, err := engine.Entry(ctx, mark.number)
+	text, isThere, err := e.Entry(ctx, mark.number)
 	if err == nil && !(isThere && sha256.Sum256(text) == mark.sum) {
 		err = &ChangedError{mark.number}
 	}
@@ -68,8 +68,8 @@ func (engine *Engine) Resume(ctx context.Context, mark *Mark) (first int64, err 
 }
 
 // WhyGap tells what it means that the entry of a number did not come: ErrLaterEpoch, or the given error where it is a fault.
-func (engine *Engine) WhyGap(ctx context.Context, number int64, fault error) error {
-	_, first, err := engine.Epoch(ctx)
+func (e *Engine) WhyGap(ctx context.Context, number int64, fault error) error {
+	_, first, err := e.Epoch(ctx)
 	switch {
 	case err != nil:
 		return err

@@ -15,8 +15,8 @@ import (
 	"testing"
 	"time"
 
-	"ordup-node/internal/engine"
-	"ordup-node/internal/etcdtest"
+	"ordup.dev/node/internal/engine"
+	"ordup.dev/node/internal/etcdtest"
 )
 
 // certificate makes files of a certificate that signs itself, for this computer, and its key.
@@ -76,7 +76,7 @@ func TestMembersWithTLSAndUsers(t *testing.T) {
 func TestTLSOfFiles(t *testing.T) {
 	file, key := certificate(t)
 	none, err := engine.TLSOf("", "", "", nil)
-	is(t, []interface{}{true, nil}, []interface{}{none == nil, err})
+	is(t, []any{true, nil}, []any{none == nil, err})
 	for _, names := range [][3]string{{"/nowhere", "", ""}, {key, "", ""}, {file, file, ""}, {"", file, file}, {file, "/nowhere", key}} {
 		if _, err := engine.TLSOf(names[0], names[1], names[2], nil); err == nil {
 			t.Errorf("%v is taken", names)

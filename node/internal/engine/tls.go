@@ -6,8 +6,8 @@ import (
 	"fmt"
 	"os"
 
-	"ordup-node/internal/logs"
-	"ordup-node/internal/reload"
+	"ordup.dev/node/internal/logs"
+	"ordup.dev/node/internal/reload"
 )
 
 // TLSOf gives the TLS of a Config by files in PEM: the authority that the certificates of the members are of, and the certificate and
@@ -22,7 +22,8 @@ func TLSOf(authority, certificate, key string, log *logs.Log) (*tls.Config, erro
 		if err != nil {
 			return nil, err
 		}
-		if config.RootCAs = x509.NewCertPool(); !config.RootCAs.AppendCertsFromPEM(text) {
+		config.RootCAs = x509.NewCertPool()
+		if !config.RootCAs.AppendCertsFromPEM(text) {
 			return nil, fmt.Errorf("%s has no certificate", authority)
 		}
 	}

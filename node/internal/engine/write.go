@@ -24,7 +24,7 @@ type Write struct {
 // Write creates an entry by one transaction, where there is none of its number, the one before it is there, and the last epoch is the one
 // that the writer has run. It is written, also by an earlier call whose answer was lost, or the error says why it is not: a TakenError, a
 // ServedError or a MissingError. After an AwayError that is not known, and Write may be called again.
-func (engine *Engine) Write(ctx context.Context, write *Write) error {
+func (e *Engine) Write(ctx context.Context, write *Write) error {
 	key := entryKey(write.Number)
 	holds := []clientv3.Cmp{clientv3.Compare(clientv3.CreateRevision(key), "=", 0)}
 	if write.Number > 1 {
@@ -46,7 +46,7 @@ func (engine *Engine) Write(ctx context.Context, write *Write) error {
 	}
 	looks := []clientv3.Op{clientv3.OpGet(key), clientv3.OpGet(epochKey), clientv3.OpGet(entryKey(write.Number-1), clientv3.WithKeysOnly())}
 	var done *clientv3.TxnResponse
-	err := engine.call(ctx, CallTime, func(ctx context.Context, client *clientv3.Client) (err error) {
+	err := e.call(ctx, CallTime, func(ctx context.Context, client *clientv3.Client) (err error) {
 		done, err = client.Txn(ctx).If(holds...).Then(puts...).Else(looks...).Commit()
 		return err
 	})
@@ -57,28 +57,28 @@ func (engine *Engine) Write(ctx context.Context, write *Write) error {
 }
 
 // refusal is why nothing was written, by what is there instead.
-func (write *Write) refusal(found []*pb.ResponseOp) error {
+func (w *Write) refusal(found []*pb.ResponseOp) error {
 	entry, epoch, before := found[0].GetResponseRange().Kvs, found[1].GetResponseRange().Kvs, found[2].GetResponseRange().Kvs
 	if len(entry) > 0 {
-		if bytes.Equal(entry[0].Value, write.Text) {
+		if bytes.Equal(entry[0].Value, w.Text) {
 			return nil
 		}
-		return &TakenError{fmt.Sprintf("another primary wrote the entry %d", write.Number)}
+		return &TakenError{fmt.Sprintf("another primary wrote the entry %d", w.Number)}
 	}
 	if len(epoch) > 0 {
 		_, first, err := epochOf(epoch[0].Value)
 		if err != nil {
 			return err
 		}
-		if first > write.Number || write.Last > 0 && first != write.Since {
+		if first > w.Number || w.Last > 0 && first != w.Since {
 			return &TakenError{fmt.Sprintf("another primary went over to a later epoch, with the entry %d", first)}
 		}
 	}
-	if write.Number > 1 && len(before) == 0 {
-		return &MissingError{write.Number - 1}
+	if w.Number > 1 && len(before) == 0 {
+		return &MissingError{w.Number - 1}
 	}
-	if len(write.Absent) > 0 {
-		return &ServedError{write.Absent}
+	if len(w.Absent) > 0 {
+		return &ServedError{w.Absent}
 	}
 	return &TakenError{"the script is not empty any more"}
 }

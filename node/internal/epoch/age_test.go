@@ -5,18 +5,18 @@ import (
 	"testing"
 	"time"
 
-	"ordup-node/internal/script"
+	"ordup.dev/node/internal/script"
 )
 
 // passEpoch ends the epoch.
-func (world *world) passEpoch() {
-	world.t.Helper()
-	before := world.core.Epoch()
-	world.next()
-	world.write()
-	world.tellAll()
-	world.write()
-	is(world.t, before+1, world.core.Epoch())
+func (w *world) passEpoch() {
+	w.t.Helper()
+	before := w.core.Epoch()
+	w.next()
+	w.write()
+	w.tellAll()
+	w.write()
+	is(w.t, before+1, w.core.Epoch())
 }
 
 func aged(t *testing.T) *world {
@@ -29,11 +29,11 @@ func aged(t *testing.T) *world {
 }
 
 // Whoever has run the script decides alike who is forgotten: this core, and one that begins with the last epoch.
-func (world *world) remembers(kind VerdictKind) {
-	world.t.Helper()
-	other := world.replay(config("p2"))
-	is(world.t, fmt.Sprint(world.core.clients), fmt.Sprint(other.clients))
-	is(world.t, kind, world.ask("ann", 1, "add:tea:-1").Kind)
+func (w *world) remembers(kind VerdictKind) {
+	w.t.Helper()
+	other := w.replay(config("p2"))
+	is(w.t, fmt.Sprint(w.core.clients), fmt.Sprint(other.clients))
+	is(w.t, kind, w.ask("ann", 1, "add:tea:-1").Kind)
 }
 
 // Epochs that follow one another fast forget nobody, and so does time without epochs.

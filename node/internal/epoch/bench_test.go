@@ -7,8 +7,10 @@ import (
 	"testing"
 	"time"
 
-	"ordup-node/internal/script"
-	"ordup-node/internal/store"
+	"ordup.dev/ordup/answer"
+
+	"ordup.dev/node/internal/script"
+	"ordup.dev/node/internal/store"
 )
 
 // A plain store answers as one without limits does, and computes nothing: what is measured is the core.
@@ -18,49 +20,50 @@ type plain struct {
 	answers         []byte
 }
 
-func (plain *plain) Run(lines []byte) ([]byte, error) {
-	plain.answers = plain.answers[:0]
-	for len(lines) > 0 {
-		end := bytes.IndexByte(lines, '\n')
-		plain.answer(lines[:end])
-		lines = lines[end+1:]
+func (p *plain) Answers(lines []byte) ([]answer.Answer, error) {
+	p.answers = p.answers[:0]
+	for left := lines; len(left) > 0; {
+		end := bytes.IndexByte(left, '\n')
+		p.answer(left[:end])
+		left = left[end+1:]
 	}
-	return plain.answers, nil
+	return answer.ParseAll(string(p.answers), lines)
 }
 
-func (plain *plain) answer(line []byte) {
+func (p *plain) answer(line []byte) {
 	say := func(words string, number int64) {
-		plain.answers = append(strconv.AppendInt(append(plain.answers, words...), number, 10), '\n')
+		p.answers = append(strconv.AppendInt(append(p.answers, words...), number, 10), '\n')
 	}
 	switch line[1] {
 	case 'r': // propose
-		plain.proposed++
-		say("ok proposed ", plain.proposed)
+		p.proposed++
+		say("ok proposed ", p.proposed)
 	case 'e':
 		switch line[0] {
 		case 's':
 			if line[2] == 't' {
-				plain.acked++
-				say("ok acked ", plain.acked)
+				p.acked++
+				say("ok acked ", p.acked)
 			} else {
 				say("ok sent south ", 1)
 			}
 		case 'r':
 			name := string(line[len("report "):])
-			say("ok reported "+name+" ", plain.places[name])
+			say("ok reported "+name+" ", p.places[name])
 		}
 	case 'p':
-		plain.places[string(line[len("apply "):])]++
+		p.places[string(line[len("apply "):])]++
 		say("ok applied south ", 1)
 	case 'i':
-		plain.answers = append(append(append(plain.answers, "ok site "...), bytes.Fields(line)[1]...), '\n')
+		p.answers = append(append(append(p.answers, "ok site "...), bytes.Fields(line)[1]...), '\n')
 	default:
-		plain.answers = append(plain.answers, "ok start\n"...)
+		p.answers = append(p.answers, "ok start\n"...)
 	}
 }
 
-func (plain *plain) NextDeclarations() (string, error) { return "", nil }
-func (plain *plain) Close() error                      { return nil }
+func (p *plain) NextDeclarations() (string, error) { return "", nil }
+func (p *plain) Record(string) (string, error)     { return "", nil }
+func (p *plain) Close() error                      { return nil }
 
 // written gives the entries of so many updates, a thousand a turn, with four sites.
 func written(b *testing.B, updates int) []*script.Entry {
@@ -138,7 +141,7 @@ func BenchmarkCarry(b *testing.B) {
 	}
 	for at := 0; at < b.N; at++ {
 		core.clients.take(client{name: fmt.Sprintf("client-%d", at), number: 1, digest: script.DigestOf("add:tea:-1"), epoch: 1, asked: 1})
-		core.clients.answer(asker{fmt.Sprintf("client-%d", at), 1, ""}, ackedText(int64(at+1), 1), 1)
+		core.clients.answer(asker{fmt.Sprintf("client-%d", at), 1, ""}, script.Answer{Place: int64(at + 1), Epoch: 1}, 1)
 	}
 	core.startCarry(2)
 	b.ReportAllocs()

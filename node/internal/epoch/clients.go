@@ -4,7 +4,7 @@ import (
 	"fmt"
 	"strings"
 
-	"ordup-node/internal/script"
+	"ordup.dev/node/internal/script"
 )
 
 // An asker is a request without its changes.
@@ -22,7 +22,7 @@ type client struct {
 	number             int64
 	digest             string
 	epoch, asked, time int64
-	text               string
+	answer             script.Answer
 	entry              int64
 }
 
@@ -30,61 +30,62 @@ type client struct {
 type clients map[string]client
 
 // take notes a request, and returns the copy of its client's name.
-func (clients clients) take(last client) string {
-	name := clients[last.name].name
+func (c clients) take(last client) string {
+	name := c[last.name].name
 	if name == "" {
 		name = strings.Clone(last.name)
 	}
 	last.name = name
-	clients[name] = last
+	c[name] = last
 	return name
 }
 
 // carry notes what an entry carries over.
-func (clients clients) carry(known *script.Step, entry int64) {
-	name := strings.Clone(known.Name)
-	clients[name] = client{name: name, number: known.Number, digest: strings.Clone(known.Digest), epoch: known.Count, asked: entry,
-		time: -known.Age, text: strings.Clone(known.Text), entry: entry}
+func (c clients) carry(known *script.Step, entry int64) {
+	name, decided := strings.Clone(known.Client), known.Answer
+	decided.Refusal.Name = strings.Clone(decided.Refusal.Name)
+	c[name] = client{name: name, number: known.Number, digest: strings.Clone(known.Digest), epoch: known.Epoch, asked: entry,
+		time: -known.Age, answer: decided, entry: entry}
 }
 
 // answer notes the answer to a request. Where the client has asked under a later number since, nobody may ask for it.
-func (clients clients) answer(asked asker, text string, entry int64) {
-	if last := clients[asked.name]; last.number == asked.number {
-		last.text, last.entry = text, entry
-		clients[last.name] = last
+func (c clients) answer(asked asker, decided script.Answer, entry int64) {
+	if last := c[asked.name]; last.number == asked.number {
+		last.answer, last.entry = decided, entry
+		c[last.name] = last
 	}
 }
 
 // remembers is whether a client is carried over to the epoch after this one.
-func (core *Core) remembers(last *client) bool {
-	return core.epoch-last.epoch < core.settings.Remembers || core.clock-last.time < core.settings.Seconds
+func (c *Core) remembers(last *client) bool {
+	return c.epoch-last.epoch < c.settings.Remembers || c.clock-last.time < c.settings.Seconds
 }
 
 // checkCarried looks whether an entry carries over the last requests of clients, and where it begins the next epoch whether none is missing,
 // and whether it begins as it must.
-func (core *Core) checkCarried(number int64, entry *script.Entry) error {
+func (c *Core) checkCarried(number int64, entry *script.Entry) error {
 	for at := range entry.Steps {
 		step := &entry.Steps[at]
 		if step.Kind != script.Known {
 			continue
 		}
-		last, isKnown := core.clients[step.Name]
+		last, isKnown := c.clients[step.Client]
 		carried := last
-		carried.number, carried.digest, carried.epoch, carried.text = step.Number, step.Digest, step.Count, step.Text
-		carried.time = core.clock - step.Age
-		if !isKnown || carried != last || !core.remembers(&last) {
-			return &BrokenError{number, fmt.Sprintf("it does not carry over the last request of %s", step.Name)}
+		carried.number, carried.digest, carried.epoch, carried.answer = step.Number, step.Digest, step.Epoch, step.Answer
+		carried.time = c.clock - step.Age
+		if !isKnown || carried != last || !c.remembers(&last) {
+			return &BrokenError{number, fmt.Sprintf("it does not carry over the last request of %s", step.Client)}
 		}
 	}
 	if !entry.Begins() {
 		return nil
 	}
-	for name, last := range core.clients {
-		if _, isCarried := core.carry.clients[name]; !isCarried && core.remembers(&last) {
+	for name, last := range c.clients {
+		if _, isCarried := c.carry.clients[name]; !isCarried && c.remembers(&last) {
 			return &BrokenError{number, fmt.Sprintf("the client %s is not carried over", name)}
 		}
 	}
-	return core.checkBeginning(number, entry)
+	return c.checkBeginning(number, entry)
 }
 
 // A queue has who waits for acknowledgements, in the order of the log.
@@ -93,17 +94,15 @@ type queue struct {
 	front  int
 }
 
-func (queue *queue) push(asked asker) { queue.askers = append(queue.askers, asked) }
+func (q *queue) push(asked asker) { q.askers = append(q.askers, asked) }
 
-func (queue *queue) pop() asker {
-	asked := queue.askers[queue.front]
-	queue.askers[queue.front] = asker{}
-	queue.front++
-	if queue.front > len(queue.askers)/2 {
-		queue.askers = append(queue.askers[:0], queue.askers[queue.front:]...)
-		queue.front = 0
+func (q *queue) pop() asker {
+	asked := q.askers[q.front]
+	q.askers[q.front] = asker{}
+	q.front++
+	if q.front > len(q.askers)/2 {
+		q.askers = append(q.askers[:0], q.askers[q.front:]...)
+		q.front = 0
 	}
 	return asked
 }
-
-func (queue *queue) len() int { return len(queue.askers) - queue.front }

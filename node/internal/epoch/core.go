@@ -5,9 +5,9 @@ import (
 	"fmt"
 	"time"
 
-	"ordup-node/internal/exit"
-	"ordup-node/internal/script"
-	"ordup-node/internal/store"
+	"ordup.dev/node/internal/exit"
+	"ordup.dev/node/internal/script"
+	"ordup.dev/node/internal/store"
 )
 
 // A Config is what a core is made with.
@@ -65,8 +65,8 @@ type openTurn struct {
 }
 
 // most is as much of a count as the turn has room for.
-func (turn *openTurn) most(count int64) int64 {
-	if room := int64(turn.room); room < count {
+func (o *openTurn) most(count int64) int64 {
+	if room := int64(o.room); room < count {
 		return room
 	}
 	return count
@@ -75,8 +75,8 @@ func (turn *openTurn) most(count int64) int64 {
 // A GapError says that the script lacks an entry.
 type GapError struct{ Number, Instead int64 }
 
-func (err *GapError) Error() string {
-	return fmt.Sprintf("the script has the entry %d where %d comes", err.Instead, err.Number)
+func (e *GapError) Error() string {
+	return fmt.Sprintf("the script has the entry %d where %d comes", e.Instead, e.Number)
 }
 
 // ExitStatus is that of a process which meets it.
@@ -88,7 +88,7 @@ type BrokenError struct {
 	Why    string
 }
 
-func (err *BrokenError) Error() string { return fmt.Sprintf("the entry %d: %s", err.Number, err.Why) }
+func (e *BrokenError) Error() string { return fmt.Sprintf("the entry %d: %s", e.Number, e.Why) }
 
 // ExitStatus is that of a process which meets it.
 func (*BrokenError) ExitStatus() exit.Status { return exit.Gap }
@@ -100,11 +100,11 @@ type VersionError struct {
 	Supported []string
 }
 
-func (err *VersionError) Error() string {
-	if err.Number == 0 {
-		return fmt.Sprintf("the next epoch cannot be run by ordup %s: this program has %v", err.Version, err.Supported)
+func (e *VersionError) Error() string {
+	if e.Number == 0 {
+		return fmt.Sprintf("the next epoch cannot be run by ordup %s: this program has %v", e.Version, e.Supported)
 	}
-	return fmt.Sprintf("the entry %d is run by ordup %s, and this program has %v", err.Number, err.Version, err.Supported)
+	return fmt.Sprintf("the entry %d is run by ordup %s, and this program has %v", e.Number, e.Version, e.Supported)
 }
 
 // ExitStatus is that of a process which meets it.
@@ -129,129 +129,132 @@ func New(config Config, first int64) *Core {
 }
 
 // Close gives the store back.
-func (core *Core) Close() {
-	if core.store != nil {
-		core.store.Close()
-		core.store = nil
+func (c *Core) Close() {
+	if c.store != nil {
+		c.store.Close()
+		c.store = nil
 	}
 }
 
 // Next is the number of the entry that comes next.
-func (core *Core) Next() int64 { return core.entries + 1 }
+func (c *Core) Next() int64 { return c.entries + 1 }
 
 // Epoch is the epoch, or 0 before the script was begun.
-func (core *Core) Epoch() int64 { return core.epoch }
+func (c *Core) Epoch() int64 { return c.epoch }
 
 // First is the number of the first entry of the epoch.
-func (core *Core) First() int64 { return core.first }
+func (c *Core) First() int64 { return c.first }
 
 // Begun is the last epoch whose beginning is in the script.
-func (core *Core) Begun() int64 {
-	if core.written < core.begun {
-		return core.epoch - 1
+func (c *Core) Begun() int64 {
+	if c.written < c.begun {
+		return c.epoch - 1
 	}
-	return core.epoch
+	return c.epoch
 }
 
 // Settings are those of the epoch.
-func (core *Core) Settings() script.Settings { return core.settings }
+func (c *Core) Settings() script.Settings { return c.settings }
 
 // Replay runs an entry of the script.
-func (core *Core) Replay(number int64, entry *script.Entry) error {
-	if number != core.entries+1 {
-		return &GapError{Number: core.entries + 1, Instead: number}
+func (c *Core) Replay(number int64, entry *script.Entry) error {
+	if number != c.entries+1 {
+		return &GapError{Number: c.entries + 1, Instead: number}
 	}
-	if !core.runs(entry.Ordup) {
-		return &VersionError{number, entry.Ordup, core.config.Versions}
+	if !c.runs(entry.Ordup) {
+		return &VersionError{number, entry.Ordup, c.config.Versions}
 	}
-	if err := core.enter(number, entry); err != nil {
+	if err := c.enter(number, entry); err != nil {
 		return err
 	}
 	answers := entry.Answers()
-	core.entries, core.running, core.decided = number, number, nil
-	if err := core.run(entry.Steps[:len(entry.Steps)-len(answers)]); err != nil {
+	c.entries, c.running, c.decided = number, number, nil
+	if err := c.run(entry.Steps[:len(entry.Steps)-len(answers)]); err != nil {
 		return err
 	}
-	if err := core.compare(answers); err != nil {
+	if err := c.compare(answers); err != nil {
 		return err
 	}
-	core.written, core.decided, core.timed = number, nil, 0
+	c.written, c.decided, c.timed = number, nil, 0
 	return nil
 }
 
 // enter looks at the epoch of an entry. An entry of the next epoch, or the first one of all, carries over or begins it.
-func (core *Core) enter(number int64, entry *script.Entry) error {
-	if core.epoch == 0 && core.carry == nil {
-		core.epoch, core.carry = entry.Epoch-1, &carry{first: number, clients: clients{}}
+func (c *Core) enter(number int64, entry *script.Entry) error {
+	if c.epoch == 0 && c.carry == nil {
+		c.epoch, c.carry = entry.Epoch-1, &carry{first: number, clients: clients{}}
 	}
-	if core.carry == nil && entry.Epoch == core.epoch+1 {
-		if why := core.unended(); why != "" {
+	if c.carry == nil && entry.Epoch == c.epoch+1 {
+		if why := c.unended(); why != "" {
 			return &BrokenError{number, why}
 		}
-		core.startCarry(number)
+		c.startCarry(number)
 	}
-	if entry.Epoch != core.entryEpoch() {
-		return &BrokenError{number, fmt.Sprintf("it is of epoch %d, and not of %d", entry.Epoch, core.entryEpoch())}
+	if entry.Epoch != c.entryEpoch() {
+		return &BrokenError{number, fmt.Sprintf("it is of epoch %d, and not of %d", entry.Epoch, c.entryEpoch())}
 	}
 	for at := range entry.Steps {
-		if kind := entry.Steps[at].Kind; !belongs(kind, core.carry != nil, entry.Begins()) {
+		if kind := entry.Steps[at].Kind; !belongs(kind, c.carry != nil, entry.Begins()) {
 			return &BrokenError{number, fmt.Sprintf("the step %s does not belong there", kind)}
 		}
 	}
-	if core.store != nil && core.carry != nil {
-		return core.checkCarried(number, entry)
+	if c.store != nil && c.carry != nil {
+		return c.checkCarried(number, entry)
 	}
-	return core.takeAgain(number, entry)
+	return c.takeAgain(number, entry)
 }
 
 // takeAgain takes the requests of an entry, each under a number that its client has not come to before.
-func (core *Core) takeAgain(number int64, entry *script.Entry) error {
-	clock := core.clock
+func (c *Core) takeAgain(number int64, entry *script.Entry) error {
+	clock := c.clock
 	for at := range entry.Steps {
 		step := &entry.Steps[at]
 		if step.Kind == script.Elapsed {
-			clock += step.Count
+			clock += step.Seconds
 		}
 		if step.Kind != script.Ask {
 			continue
 		}
-		if last := core.clients[step.Name].number; step.Number <= last {
+		if last := c.clients[step.Client].number; step.Number <= last {
 			return &BrokenError{number, asksAgain(step, last)}
 		}
-		step.Digest = script.DigestOf(step.Text)
-		step.Name = core.clients.take(client{name: step.Name, number: step.Number, digest: step.Digest, epoch: core.epoch, asked: number, time: clock})
+		step.Digest = script.DigestOf(step.Words)
+		step.Client = c.clients.take(client{name: step.Client, number: step.Number, digest: step.Digest, epoch: c.epoch, asked: number, time: clock})
 	}
 	return nil
 }
 
 // compare looks whether the answers of an entry are those that were decided as it was run.
-func (core *Core) compare(answers []script.Step) error {
-	for at := 0; at < len(answers) || at < len(core.decided); at++ {
-		if at == len(answers) || at == len(core.decided) || answers[at] != core.decided[at] {
-			return &BrokenError{core.running, "its answers are not those that the store of this program gives"}
+func (c *Core) compare(answers []script.Step) error {
+	for at := 0; at < len(answers) || at < len(c.decided); at++ {
+		if at == len(answers) || at == len(c.decided) || answers[at] != c.decided[at] {
+			return &BrokenError{c.running, "its answers are not those that the store of this program gives"}
 		}
 	}
 	return nil
 }
 
 // entryEpoch is the epoch of the next entry.
-func (core *Core) entryEpoch() int64 {
-	if core.carry != nil {
-		return core.epoch + 1
+func (c *Core) entryEpoch() int64 {
+	if c.carry != nil {
+		return c.epoch + 1
 	}
-	return core.epoch
+	return c.epoch
 }
 
 // entryVersion is the version of ordup that runs the epoch of the next entry.
-func (core *Core) entryVersion() string {
-	if core.carry != nil && core.wish != nil {
-		return core.wish.Settings.Ordup
+func (c *Core) entryVersion() string {
+	if c.carry != nil && c.wish != nil {
+		return c.wish.Settings.Ordup
 	}
-	return core.settings.Ordup
+	return c.settings.Ordup
 }
 
-func (core *Core) runs(version string) bool {
-	for _, own := range core.config.Versions {
+func (c *Core) runs(version string) bool { return Runs(c.config.Versions, version) }
+
+// Runs is whether a program of these versions of ordup runs what is of one.
+func Runs(versions []string, version string) bool {
+	for _, own := range versions {
 		if version == own {
 			return true
 		}

@@ -5,10 +5,10 @@ import (
 	"testing"
 	"time"
 
-	"ordup-node/internal/exit"
-	"ordup-node/internal/modelstore"
-	"ordup-node/internal/script"
-	"ordup-node/internal/store"
+	"ordup.dev/node/internal/exit"
+	"ordup.dev/node/internal/modelstore"
+	"ordup.dev/node/internal/script"
+	"ordup.dev/node/internal/store"
 )
 
 // grown is a script with so many updates, of sites without limits, over a store that computes nothing.
@@ -39,15 +39,15 @@ func grown(t *testing.T, updates int, sites ...string) *world {
 }
 
 // leave takes a site out, by the step that a wish would write.
-func (world *world) leave(sites ...string) {
+func (w *world) leave(sites ...string) {
 	steps := []script.Step{}
 	for _, site := range sites {
-		steps = append(steps, script.Step{Kind: script.Leave, Name: site})
+		steps = append(steps, script.Step{Kind: script.Leave, Site: site})
 	}
-	if err := world.core.add(steps); err != nil {
-		world.t.Fatal(err)
+	if err := w.core.add(steps); err != nil {
+		w.t.Fatal(err)
 	}
-	world.keep(world.seal())
+	w.keep(w.seal())
 }
 
 // However much comes while one turn is on its way, what is written is read by all.
@@ -94,9 +94,9 @@ func TestNoEntryCountsMoreThanItsReaderTakes(t *testing.T) {
 }
 
 // workLong is as many wakes as come while a turn is on its way for some time.
-func (world *world) workLong() {
+func (w *world) workLong() {
 	for wakes := 0; wakes < 60; wakes++ {
-		world.work()
+		w.work()
 	}
 }
 
@@ -129,19 +129,19 @@ func TestAWishWaitsForRoom(t *testing.T) {
 func TestWhatNobodyReadsIsNotWritten(t *testing.T) {
 	for name, steps := range map[string][]script.Step{
 		"it counts too much": {{Kind: script.Settle, Count: 1_000_001}},
-		"it is no step":      {{Kind: script.Leave, Name: "North"}},
+		"it is no step":      {{Kind: script.Leave, Site: "North"}},
 		"it is too large":    make([]script.Step, 1<<18),
 	} {
 		t.Run(name, func(t *testing.T) {
 			world := newWorld(t, settings, shop)
 			for at := range steps {
 				if steps[at].Kind == 0 {
-					steps[at] = script.Step{Kind: script.Leave, Name: "x"}
+					steps[at] = script.Step{Kind: script.Leave, Site: "x"}
 				}
 			}
 			world.core.turn.steps = steps
 			turn, err := world.core.Seal(world.now)
-			is(t, []interface{}{true, exit.Gap}, []interface{}{turn == nil, exit.Of(err)})
+			is(t, []any{true, exit.Gap}, []any{turn == nil, exit.Of(err)})
 			is(t, err, world.core.Failure())
 		})
 	}

@@ -7,8 +7,10 @@ import (
 	"strings"
 	"time"
 
-	"ordup-node/internal/script"
-	"ordup-node/internal/store"
+	"ordup.dev/ordup/answer"
+
+	"ordup.dev/node/internal/script"
+	"ordup.dev/node/internal/store"
 )
 
 // MostDeclarationsBytes is how many bytes declarations may have, and their lines that many as steps of an entry.
@@ -46,7 +48,8 @@ var (
 func Declarations(text string) []string {
 	lines := []string{}
 	for _, line := range strings.Split(text, "\n") {
-		if line = strings.Join(strings.Fields(line), " "); line != "" && line[0] != '#' {
+		line = strings.Join(strings.Fields(line), " ")
+		if line != "" && line[0] != '#' {
 			lines = append(lines, line)
 		}
 	}
@@ -70,20 +73,19 @@ func Check(open store.Open, settings *script.Settings, declarations []string) er
 	}
 	trial, err := open()
 	if err != nil {
-		return err
+		return fmt.Errorf("try the declarations: %w", err)
 	}
 	defer trial.Close()
-	given, err := trial.Run([]byte(text))
+	answers, err := trial.Answers([]byte(text))
 	if err != nil {
-		return err
+		return fmt.Errorf("try the declarations: %w", err)
 	}
-	answers := strings.Split(strings.TrimSuffix(string(given), "\n"), "\n")
-	for at, answer := range answers {
-		if !strings.HasPrefix(answer, "ok ") && at < len(declarations) {
-			return fmt.Errorf("%s: %s", declarations[at], answer)
+	for _, given := range answers {
+		if refused, isRefused := given.(*answer.Refused); isRefused {
+			return refused
 		}
 	}
-	if len(answers) != len(declarations) || answers[len(answers)-1] != "ok start" {
+	if len(answers) != len(declarations) || len(answers) == 0 || answers[len(answers)-1] != (answer.Started{}) {
 		return errors.New("the last declaration does not start the store")
 	}
 	return nil
@@ -116,93 +118,93 @@ func FirstTurn(config Config, settings script.Settings, declarations []string) (
 }
 
 // TakeOver is an entry by which the writer takes over. It is not run: Replay it once it is written.
-func (core *Core) TakeOver() *Turn {
-	turn := &Turn{Number: core.entries + 1, Last: core.epoch, Since: core.first}
-	turn.entry = &script.Entry{Epoch: core.entryEpoch(), Ordup: core.entryVersion(), Writer: core.config.Writer}
+func (c *Core) TakeOver() *Turn {
+	turn := &Turn{Number: c.entries + 1, Last: c.epoch, Since: c.first}
+	turn.entry = &script.Entry{Epoch: c.entryEpoch(), Ordup: c.entryVersion(), Writer: c.config.Writer}
 	turn.Text = turn.entry.Text()
 	return turn
 }
 
 // Entry is what the turn writes.
-func (turn *Turn) Entry() *script.Entry { return turn.entry }
+func (tr *Turn) Entry() *script.Entry { return tr.entry }
 
 func beginning(settings script.Settings, declarations []string) []script.Step {
 	steps := []script.Step{{Kind: script.Begin, Settings: &settings}}
 	for _, line := range declarations {
-		steps = append(steps, script.Step{Kind: script.Declare, Text: line})
+		steps = append(steps, script.Step{Kind: script.Declare, Words: line})
 	}
 	return steps
 }
 
 // AskNext takes the wish for the next epoch, or takes note that it was taken before. What is zero in its settings stays. The wish has
 // come true once Begun is after wish.From.
-func (core *Core) AskNext(wish Wish) error {
-	core.complete(&wish)
+func (c *Core) AskNext(wish Wish) error {
+	c.complete(&wish)
 	switch {
-	case wish.From > core.epoch:
+	case wish.From > c.epoch:
 		return ErrNotYet
-	case wish.From < core.epoch:
-		return core.compareWish(&wish, &core.settings, core.begun)
-	case core.wish != nil && (wish.Settings == core.wish.Settings || !wish.Replaces || core.carry != nil):
-		return core.compareWish(&wish, &core.wish.Settings, core.wished)
-	case core.carry != nil || core.turn.bytes >= askBytes:
+	case wish.From < c.epoch:
+		return c.compareWish(&wish, &c.settings, c.begun)
+	case c.wish != nil && (wish.Settings == c.wish.Settings || !wish.Replaces || c.carry != nil):
+		return c.compareWish(&wish, &c.wish.Settings, c.wished)
+	case c.carry != nil || c.turn.bytes >= askBytes:
 		return ErrNotNow
 	}
-	if err := core.mayWish(&wish); err != nil {
+	if err := c.mayWish(&wish); err != nil {
 		return err
 	}
 	steps := []script.Step{{Kind: script.Wish, Settings: &wish.Settings}}
 	for _, line := range wish.Declarations {
-		steps = append(steps, script.Step{Kind: script.Want, Text: line})
+		steps = append(steps, script.Step{Kind: script.Want, Words: line})
 	}
-	for _, site := range core.sites.all {
+	for _, site := range c.sites.all {
 		if len(wish.Declarations) > 0 && !site.leaves && !declares(wish.Declarations, site.name) {
-			steps = append(steps, script.Step{Kind: script.Leave, Name: site.name})
+			steps = append(steps, script.Step{Kind: script.Leave, Site: site.name})
 		}
 	}
-	return core.add(steps)
+	return c.add(steps)
 }
 
 // compareWish tells whether a wish is for what an entry says. That it is not is told once the entry is written.
-func (core *Core) compareWish(wish *Wish, instead *script.Settings, entry int64) error {
+func (c *Core) compareWish(wish *Wish, instead *script.Settings, entry int64) error {
 	switch {
 	case wish.Settings == *instead:
 		return nil
-	case entry > core.written:
+	case entry > c.written:
 		return ErrNotNow
 	}
 	return ErrOtherWish
 }
 
 // complete fills in what stays. Then two wishes are for the same if their settings are, since these have the digest of declarations.
-func (core *Core) complete(wish *Wish) {
+func (c *Core) complete(wish *Wish) {
 	if wish.Settings.Every == 0 {
-		wish.Settings.Every = core.settings.Every
+		wish.Settings.Every = c.settings.Every
 	}
 	if wish.Settings.Remembers == 0 {
-		wish.Settings.Remembers = core.settings.Remembers
+		wish.Settings.Remembers = c.settings.Remembers
 	}
 	if wish.Settings.Seconds == 0 {
-		wish.Settings.Seconds = core.settings.Seconds
+		wish.Settings.Seconds = c.settings.Seconds
 	}
 	if wish.Settings.Ordup == "" {
-		wish.Settings.Ordup = core.settings.Ordup
+		wish.Settings.Ordup = c.settings.Ordup
 	}
-	wish.Settings.Origin, wish.Settings.Began = core.settings.Origin, core.settings.Began
+	wish.Settings.Origin, wish.Settings.Began = c.settings.Origin, c.settings.Began
 	if len(wish.Declarations) > 0 {
 		wish.Settings.Origin = DigestOf(wish.Declarations)
 	}
 }
 
 // mayWish tells why the next epoch cannot be as it is wished.
-func (core *Core) mayWish(wish *Wish) error {
-	if !core.runs(wish.Settings.Ordup) {
-		return &VersionError{0, wish.Settings.Ordup, core.config.Versions}
+func (c *Core) mayWish(wish *Wish) error {
+	if !c.runs(wish.Settings.Ordup) {
+		return &VersionError{0, wish.Settings.Ordup, c.config.Versions}
 	}
 	if len(wish.Declarations) == 0 {
 		return checkSettings(&wish.Settings)
 	}
-	return Check(core.config.Open, &wish.Settings, wish.Declarations)
+	return Check(c.config.Open, &wish.Settings, wish.Declarations)
 }
 
 func declares(declarations []string, site string) bool {
@@ -215,9 +217,9 @@ func declares(declarations []string, site string) bool {
 }
 
 // Leaving are the sites that are taken out, and of which a process may still have a lease.
-func (core *Core) Leaving() []string {
+func (c *Core) Leaving() []string {
 	names := []string{}
-	for _, site := range core.sites.all {
+	for _, site := range c.sites.all {
 		if site.leaves && !site.gone {
 			names = append(names, site.name)
 		}
@@ -228,25 +230,25 @@ func (core *Core) Leaving() []string {
 // Gone says that the engine had no lease of a site that is taken out. The entry that counts it as gone is written only where that is so
 // still. The site counts as at the end from there on: a process that gets its lease later has read before that it is taken out. What the
 // turn has no room for is told by Work later.
-func (core *Core) Gone(name string) error {
-	site := core.sites.of(name)
-	if site == nil || !site.leaves || site.gone || core.carry != nil {
+func (c *Core) Gone(name string) error {
+	site := c.sites.of(name)
+	if site == nil || !site.leaves || site.gone || c.carry != nil {
 		return nil
 	}
-	core.turn.absent = append(core.turn.absent, name)
-	return core.add([]script.Step{{Kind: script.Gone, Name: name, Count: core.turn.most(core.updates - site.applied)}})
+	c.turn.absent = append(c.turn.absent, name)
+	return c.add([]script.Step{{Kind: script.Gone, Site: name, Count: c.turn.most(c.updates - site.applied)}})
 }
 
 // ends is whether no more requests are taken. While a site is away, which would hold all up, the epoch goes on.
-func (core *Core) ends(now time.Duration) bool {
-	if core.epoch == 0 || core.carry != nil {
+func (c *Core) ends(now time.Duration) bool {
+	if c.epoch == 0 || c.carry != nil {
 		return true
 	}
-	if !core.isDue() {
+	if !c.isDue() {
 		return false
 	}
-	for _, site := range core.sites.all {
-		if !site.leaves && !site.isHere(core.updates, now) {
+	for _, site := range c.sites.all {
+		if !site.leaves && !site.isHere(c.updates, now) {
 			return false
 		}
 	}
@@ -254,11 +256,11 @@ func (core *Core) ends(now time.Duration) bool {
 }
 
 // isOver is whether the next epoch may be written.
-func (core *Core) isOver(now time.Duration) bool {
-	if core.carry != nil {
+func (c *Core) isOver(now time.Duration) bool {
+	if c.carry != nil {
 		return true
 	}
-	return core.ends(now) && core.unended() == ""
+	return c.ends(now) && c.unended() == ""
 }
 
 // A carry is what is carried over to the next epoch, and from which entry on.
@@ -270,40 +272,40 @@ type carry struct {
 	sorted bool
 }
 
-func (core *Core) startCarry(first int64) {
-	core.carry = &carry{first: first, clients: clients{}}
+func (c *Core) startCarry(first int64) {
+	c.carry = &carry{first: first, clients: clients{}}
 }
 
 // closing gives the next steps of the end of an epoch: clients that are carried over, or else the beginning of the next one. A program
 // that took over and has not the version which is wished for begins none.
-func (core *Core) closing(turn *Turn) ([]script.Step, int64, error) {
-	if core.wish != nil && !core.runs(core.wish.Settings.Ordup) {
-		return nil, 0, &VersionError{turn.Number, core.wish.Settings.Ordup, core.config.Versions}
+func (c *Core) closing(turn *Turn) ([]script.Step, int64, error) {
+	if c.wish != nil && !c.runs(c.wish.Settings.Ordup) {
+		return nil, 0, &VersionError{turn.Number, c.wish.Settings.Ordup, c.config.Versions}
 	}
-	core.running = turn.Number
-	if core.carry == nil {
-		core.startCarry(turn.Number)
+	c.running = turn.Number
+	if c.carry == nil {
+		c.startCarry(turn.Number)
 	}
-	epoch := core.entryEpoch()
-	if steps := core.carried(); len(steps) > 0 {
-		return steps, epoch, core.run(steps)
+	epoch := c.entryEpoch()
+	if steps := c.carried(); len(steps) > 0 {
+		return steps, epoch, c.run(steps)
 	}
-	settings, declarations, err := core.following()
+	settings, declarations, err := c.following()
 	if err != nil {
 		return nil, 0, err
 	}
 	steps := beginning(settings, declarations)
-	err = core.run(steps)
-	turn.Epoch, turn.First = core.epoch, core.first
+	err = c.run(steps)
+	turn.Epoch, turn.First = c.epoch, c.first
 	return steps, epoch, err
 }
 
 // carried gives the next clients that are carried over, as many as an entry has room for.
-func (core *Core) carried() []script.Step {
-	carry := core.carry
+func (c *Core) carried() []script.Step {
+	carry := c.carry
 	if !carry.sorted {
-		for name, last := range core.clients {
-			if _, isCarried := carry.clients[name]; !isCarried && core.remembers(&last) {
+		for name, last := range c.clients {
+			if _, isCarried := carry.clients[name]; !isCarried && c.remembers(&last) {
 				carry.left = append(carry.left, name)
 			}
 		}
@@ -313,24 +315,24 @@ func (core *Core) carried() []script.Step {
 	steps, bytes := []script.Step{}, 0
 	for len(carry.left) > 0 && bytes < carryBytes {
 		name := carry.left[0]
-		last := core.clients[name]
-		step := script.Step{Kind: script.Known, Name: name, Number: last.number, Digest: last.digest, Count: last.epoch,
-			Age: core.clock - last.time, Text: last.text}
-		core.lines = step.Append(core.lines[:0])
-		steps, bytes, carry.left = append(steps, step), bytes+len(core.lines), carry.left[1:]
+		last := c.clients[name]
+		step := script.Step{Kind: script.Known, Client: name, Number: last.number, Digest: last.digest, Epoch: last.epoch,
+			Age: c.clock - last.time, Answer: last.answer}
+		c.lines = step.Append(c.lines[:0])
+		steps, bytes, carry.left = append(steps, step), bytes+len(c.lines), carry.left[1:]
 	}
 	return steps
 }
 
 // following gives the settings and the declarations of the next epoch.
-func (core *Core) following() (script.Settings, []string, error) {
-	text, err := core.store.NextDeclarations()
+func (c *Core) following() (script.Settings, []string, error) {
+	text, err := c.store.NextDeclarations()
 	if err != nil {
-		return script.Settings{}, nil, err
+		return script.Settings{}, nil, fmt.Errorf("declare what comes after the epoch %d: %w", c.epoch, err)
 	}
 	declarations := Declarations(text)
-	if core.wish == nil || len(core.wish.Declarations) == 0 {
-		return core.nextSettings(), declarations, nil
+	if c.wish == nil || len(c.wish.Declarations) == 0 {
+		return c.nextSettings(), declarations, nil
 	}
 	values := map[string]string{}
 	for _, line := range declarations {
@@ -338,38 +340,38 @@ func (core *Core) following() (script.Settings, []string, error) {
 			values[words[1]] = line
 		}
 	}
-	wanted := append([]string{}, core.wish.Declarations...)
+	wanted := append([]string{}, c.wish.Declarations...)
 	for at, line := range wanted {
 		if words := strings.Fields(line); words[0] == "object" && values[words[1]] != "" {
 			wanted[at] = values[words[1]]
 		}
 	}
-	return core.wish.Settings, wanted, nil
+	return c.wish.Settings, wanted, nil
 }
 
 // ended has the epoch that has ended, and the forced rounds of its sites.
-func (core *Core) ended() (epoch int64, rounds map[string]int64) {
+func (c *Core) ended() (epoch int64, rounds map[string]int64) {
 	rounds = map[string]int64{}
-	for _, site := range core.sites.all {
+	for _, site := range c.sites.all {
 		rounds[site.name] = site.rounds
 	}
-	return core.epoch, rounds
+	return c.epoch, rounds
 }
 
 // begin forgets the epoch before, and begins the next one with the clients that were carried over.
-func (core *Core) begin(settings *script.Settings) error {
-	if core.store != nil && core.config.Ended != nil {
-		core.config.Ended(core.ended())
+func (c *Core) begin(settings *script.Settings) error {
+	if c.store != nil && c.config.Ended != nil {
+		c.config.Ended(c.ended())
 	}
-	core.Close()
-	opened, err := core.config.Open()
+	c.Close()
+	opened, err := c.config.Open()
 	if err != nil {
-		return err
+		return fmt.Errorf("begin the epoch %d: %w", c.epoch+1, err)
 	}
-	core.store, core.settings = opened, *settings
-	core.epoch, core.first, core.begun = core.epoch+1, core.carry.first, core.running
-	core.clients, core.carry, core.wish = core.carry.clients, nil, nil
-	core.sites, core.waiting, core.round = sites{}, queue{}, nil
-	core.asks, core.updates, core.acknowledged, core.dueSince, core.clock = 0, 0, 0, 0, 0
+	c.store, c.settings = opened, *settings
+	c.epoch, c.first, c.begun = c.epoch+1, c.carry.first, c.running
+	c.clients, c.carry, c.wish = c.carry.clients, nil, nil
+	c.sites, c.waiting, c.round = sites{}, queue{}, nil
+	c.asks, c.updates, c.acknowledged, c.dueSince, c.clock = 0, 0, 0, 0, 0
 	return nil
 }

@@ -7,32 +7,32 @@ import (
 	"testing"
 	"time"
 
-	"ordup-node/internal/exit"
-	"ordup-node/internal/modelstore"
-	"ordup-node/internal/script"
+	"ordup.dev/node/internal/exit"
+	"ordup.dev/node/internal/modelstore"
+	"ordup.dev/node/internal/script"
 )
 
-func (world *world) next(declarations ...string) {
-	world.t.Helper()
-	if err := world.core.AskNext(Wish{From: world.core.Epoch(), Declarations: declarations}); err != nil {
-		world.t.Fatal(err)
+func (w *world) next(declarations ...string) {
+	w.t.Helper()
+	if err := w.core.AskNext(Wish{From: w.core.Epoch(), Declarations: declarations}); err != nil {
+		w.t.Fatal(err)
 	}
 }
 
 // count is how many lines of the script begin so.
-func (world *world) count(begins string) int {
+func (w *world) count(begins string) int {
 	count := 0
-	for _, text := range world.script {
+	for _, text := range w.script {
 		count += strings.Count(string(text), "\n"+begins+" ")
 	}
 	return count
 }
 
-func (world *world) tellAll() {
-	world.t.Helper()
-	for _, site := range world.core.sites.all {
+func (w *world) tellAll() {
+	w.t.Helper()
+	for _, site := range w.core.sites.all {
 		if !site.leaves {
-			world.tell(site.name, world.core.updates)
+			w.tell(site.name, w.core.updates)
 		}
 	}
 }
@@ -50,7 +50,7 @@ func TestAnEpochEndsOnceAllSitesAreThere(t *testing.T) {
 	world.tell("south", 2)
 	world.write()
 	is(t, Verdict{Kind: NotNow}, world.ask("dan", 1, "add:tea:-1"))
-	is(t, Verdict{Kind: Answered, Text: "ok acked 1 epoch 1"}, world.ask("ann", 1, "add:tea:-1"))
+	is(t, Verdict{Kind: Answered, Answer: script.Answer{Place: 1, Epoch: 1}}, world.ask("ann", 1, "add:tea:-1"))
 	world.now += Away // Nobody is here any more, so it goes on.
 	is(t, Verdict{Kind: Waits}, world.ask("dan", 1, "add:coffee:-1"))
 	world.write()
@@ -60,13 +60,13 @@ func TestAnEpochEndsOnceAllSitesAreThere(t *testing.T) {
 	is(t, "cec 1 ok acked 3 epoch 1", world.answer())
 	entry, err := script.Parse(world.script[len(world.script)-1])
 	is(t, nil, err)
-	is(t, "object tea 97", entry.Steps[1].Text)
+	is(t, "object tea 97", entry.Steps[1].Words)
 	is(t, int64(2), entry.Epoch)
 	other := world.replay(config("p2"))
 	is(t, len(world.script)-1, other.First())
 	is(t, fmt.Sprint(world.core.clients), fmt.Sprint(other.clients))
-	is(t, Verdict{Kind: Answered, Text: "ok acked 1 epoch 1"}, world.ask("ann", 1, "add:tea:-1"))
-	is(t, Verdict{Kind: Answered, Text: "refused 6 UnknownObject"}, world.ask("dan", 1, "add:coffee:-1"))
+	is(t, Verdict{Kind: Answered, Answer: script.Answer{Place: 1, Epoch: 1}}, world.ask("ann", 1, "add:tea:-1"))
+	is(t, Verdict{Kind: Answered, Answer: script.Answer{Refusal: script.Refusal{Number: 6, Name: "UnknownObject"}}}, world.ask("dan", 1, "add:coffee:-1"))
 	is(t, Verdict{Kind: Differs}, world.ask("ann", 1, "add:tea:-2"))
 }
 
@@ -149,7 +149,7 @@ func TestAWishIsMetOnce(t *testing.T) {
 	is(t, true, world.core.Status(world.now).Due)
 	world.keep(world.seal()) // the beginning
 	for _, core := range []*Core{world.core, world.replay(config("p2"))} {
-		is(t, []interface{}{int64(2), false}, []interface{}{core.Epoch(), core.Status(world.now).Due})
+		is(t, []any{int64(2), false}, []any{core.Epoch(), core.Status(world.now).Due})
 		if turn, err := core.Seal(world.now); turn != nil || err != nil {
 			t.Errorf("%s is written, %v", turn.Text, err)
 		}
@@ -241,8 +241,8 @@ func TestASiteLeavesOnceItHasNoLease(t *testing.T) {
 	is(t, []string{"north"}, world.absent)
 	is(t, int64(2), world.core.Epoch())
 	entry, _ := script.Parse(world.script[len(world.script)-1])
-	is(t, "object tea 98", entry.Steps[1].Text)
-	is(t, "object milk 7", entry.Steps[2].Text)
+	is(t, "object tea 98", entry.Steps[1].Words)
+	is(t, "object milk 7", entry.Steps[2].Words)
 	is(t, DigestOf(without), world.core.Settings().Origin)
 }
 
@@ -318,7 +318,7 @@ func TestClientsAreCarriedOverByManyEntries(t *testing.T) {
 	is(t, entries+2, world.core.First())
 	is(t, 9000, len(world.replay(config("p3")).clients))
 	is(t, 9000, world.count("known"))
-	is(t, Verdict{Kind: Answered, Text: "refused 1 Syntax"}, world.ask("client-77-"+strings.Repeat("x", 40), 1, "x"))
+	is(t, Verdict{Kind: Answered, Answer: script.Answer{Refusal: script.Refusal{Number: 1, Name: "Syntax"}}}, world.ask("client-77-"+strings.Repeat("x", 40), 1, "x"))
 }
 
 // A program that has two versions runs the old one until an operator wishes for the new one. Who has the old one alone ends there.
@@ -339,20 +339,20 @@ func TestAnotherVersionOfOrdup(t *testing.T) {
 	// The old one may take over with this wish in the script. It begins no epoch that it cannot run, unless another wish replaces this one.
 	old := world.replay(config("p1"))
 	turn, err := old.Seal(world.now)
-	is(t, []interface{}{(*Turn)(nil), true, exit.Words}, []interface{}{turn, errors.As(err, &version), exit.Of(err)})
+	is(t, []any{(*Turn)(nil), true, exit.Words}, []any{turn, errors.As(err, &version), exit.Of(err)})
 	is(t, nil, old.AskNext(Wish{From: 2, Settings: script.Settings{Every: 7, Ordup: "1"}, Replaces: true}))
 	for turn == nil || turn.First == 0 {
 		turn, err = old.Seal(world.now)
 		is(t, nil, err)
 	}
-	is(t, []interface{}{"1", 3, 3}, []interface{}{turn.Entry().Ordup, turn.Epoch, old.Epoch()})
+	is(t, []any{"1", 3, 3}, []any{turn.Entry().Ordup, turn.Epoch, old.Epoch()})
 	world.write()
-	is(t, []interface{}{"2", 3}, []interface{}{world.core.Settings().Ordup, world.core.Epoch()})
+	is(t, []any{"2", 3}, []any{world.core.Settings().Ordup, world.core.Epoch()})
 	// All entries of an epoch have its version, also those that carry clients over.
 	is(t, int64(len(world.script)-1), world.first)
 	for number := world.first; number <= int64(len(world.script)); number++ {
 		entry, err := script.Parse(world.script[number-1])
-		is(t, []interface{}{"2", nil}, []interface{}{entry.Ordup, err})
+		is(t, []any{"2", nil}, []any{entry.Ordup, err})
 		err = New(config("p1"), number).Replay(number, entry)
 		is(t, true, errors.As(err, &version))
 		is(t, exit.Words, exit.Of(err))

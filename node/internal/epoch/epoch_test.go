@@ -7,9 +7,9 @@ import (
 	"testing"
 	"time"
 
-	"ordup-node/internal/modelstore"
-	"ordup-node/internal/script"
-	"ordup-node/internal/store"
+	"ordup.dev/node/internal/modelstore"
+	"ordup.dev/node/internal/script"
+	"ordup.dev/node/internal/store"
 )
 
 var shop = []string{"object tea 100", "object till 0", "site north 1", "site south 1", "limit north count 1", "start"}
@@ -47,49 +47,49 @@ func newWorld(t *testing.T, settings script.Settings, declarations []string) *wo
 }
 
 // replay gives a core that has run the script.
-func (world *world) replay(config Config) *Core {
-	world.t.Helper()
-	core := New(config, world.first)
-	for at, text := range world.script[world.first-1:] {
+func (w *world) replay(config Config) *Core {
+	w.t.Helper()
+	core := New(config, w.first)
+	for at, text := range w.script[w.first-1:] {
 		entry, err := script.Parse(text)
 		if err != nil {
-			world.t.Fatal(err)
+			w.t.Fatal(err)
 		}
-		if err = core.Replay(world.first+int64(at), entry); err != nil {
-			world.t.Fatal(err)
+		if err = core.Replay(w.first+int64(at), entry); err != nil {
+			w.t.Fatal(err)
 		}
 	}
 	return core
 }
 
-func (world *world) work() {
-	world.t.Helper()
-	if _, err := world.core.Work(world.now); err != nil {
-		world.t.Fatal(err)
+func (w *world) work() {
+	w.t.Helper()
+	if _, err := w.core.Work(w.now); err != nil {
+		w.t.Fatal(err)
 	}
 }
 
 // seal closes the open turn, and returns the turn.
-func (world *world) seal() *Turn {
-	world.t.Helper()
-	world.work()
-	turn, err := world.core.Seal(world.now)
+func (w *world) seal() *Turn {
+	w.t.Helper()
+	w.work()
+	turn, err := w.core.Seal(w.now)
 	if err != nil {
-		world.t.Fatal(err)
+		w.t.Fatal(err)
 	}
 	return turn
 }
 
 // keep writes a turn into the script.
-func (world *world) keep(turn *Turn) {
-	world.script = append(world.script, turn.Text)
-	world.core.Written(turn.Number)
-	world.absent = append(world.absent, turn.Absent...)
+func (w *world) keep(turn *Turn) {
+	w.script = append(w.script, turn.Text)
+	w.core.Written(turn.Number)
+	w.absent = append(w.absent, turn.Absent...)
 	if turn.First > 0 {
-		world.first = turn.First
+		w.first = turn.First
 	}
 	for _, answer := range turn.Answers {
-		world.told = append(world.told, fmt.Sprintf("%s %d %s", answer.Name, answer.Number, answer.Text))
+		w.told = append(w.told, fmt.Sprintf("%s %d %s", answer.Client, answer.Number, answer.Answer))
 	}
 }
 
@@ -97,44 +97,44 @@ func (world *world) keep(turn *Turn) {
 const mostTurns = 1000
 
 // write writes turns until there is nothing to write, and returns how many.
-func (world *world) write() int {
-	world.t.Helper()
+func (w *world) write() int {
+	w.t.Helper()
 	for count := 0; count < mostTurns; count++ {
-		turn := world.seal()
+		turn := w.seal()
 		if turn == nil {
 			return count
 		}
-		world.keep(turn)
+		w.keep(turn)
 	}
-	world.t.Fatal("there is always one more turn")
+	w.t.Fatal("there is always one more turn")
 	return 0
 }
 
-func (world *world) ask(client string, number int64, changes string) Verdict {
-	world.t.Helper()
-	verdicts, err := world.core.Ask([]Request{{client, number, changes}}, world.now)
+func (w *world) ask(client string, number int64, changes string) Verdict {
+	w.t.Helper()
+	verdicts, err := w.core.Ask([]Request{{client, number, changes}}, w.now)
 	if err != nil {
-		world.t.Fatal(err)
+		w.t.Fatal(err)
 	}
 	return verdicts[0]
 }
 
-func (world *world) tell(site string, applied int64) {
-	world.t.Helper()
-	if err := world.core.Tell(Place{Site: site, Epoch: world.core.Epoch(), Applied: applied, Entry: world.core.written}, world.now); err != nil {
-		world.t.Fatal(err)
+func (w *world) tell(site string, applied int64) {
+	w.t.Helper()
+	if err := w.core.Tell(Place{Site: site, Epoch: w.core.Epoch(), Applied: applied, Entry: w.core.written}, w.now); err != nil {
+		w.t.Fatal(err)
 	}
 }
 
 // answer is what the client was told last.
-func (world *world) answer() string {
-	if len(world.told) == 0 {
+func (w *world) answer() string {
+	if len(w.told) == 0 {
 		return ""
 	}
-	return world.told[len(world.told)-1]
+	return w.told[len(w.told)-1]
 }
 
-func is(t *testing.T, wants, has interface{}) {
+func is(t *testing.T, wants, has any) {
 	t.Helper()
 	if fmt.Sprint(wants) != fmt.Sprint(has) {
 		t.Errorf("%v instead of %v", has, wants)
@@ -148,14 +148,14 @@ func TestEachNumberIsAnsweredOnce(t *testing.T) {
 	is(t, Verdict{Kind: NotNow}, world.ask("ann", 5, "add:tea:-2"))
 	is(t, 1, world.write())
 	is(t, "ann 5 ok acked 1 epoch 1", world.answer())
-	is(t, Verdict{Kind: Answered, Text: "ok acked 1 epoch 1"}, world.ask("ann", 5, "add:tea:-1"))
+	is(t, Verdict{Kind: Answered, Answer: script.Answer{Place: 1, Epoch: 1}}, world.ask("ann", 5, "add:tea:-1"))
 	is(t, Verdict{Kind: Differs}, world.ask("ann", 5, "add:tea:-2"))
 	is(t, Verdict{Kind: Passed, Last: 5}, world.ask("ann", 4, "add:tea:-1"))
 	is(t, 0, world.write())
 	is(t, Verdict{Kind: Waits}, world.ask("bob", 1, "add:coffee:1"))
 	is(t, 1, world.write())
 	is(t, "bob 1 refused 6 UnknownObject", world.answer())
-	is(t, Verdict{Kind: Answered, Text: "refused 6 UnknownObject"}, world.ask("bob", 1, "add:coffee:1"))
+	is(t, Verdict{Kind: Answered, Answer: script.Answer{Refusal: script.Refusal{Number: 6, Name: "UnknownObject"}}}, world.ask("bob", 1, "add:coffee:1"))
 	for _, request := range []Request{{"Ann", 1, "x"}, {"", 1, "x"}, {"ann", 0, "x"}, {"ann", -1, "x"}, {"ann", 7, "\xff"},
 		{"ann", 7, "add:tea:1\nsettle"}, {"\xff/1", 7, "x"}, {"ann", 7, strings.Repeat("x", 4001)}} {
 		is(t, Verdict{Kind: Malformed}, world.ask(request.Client, request.Number, request.Changes))
@@ -186,7 +186,7 @@ func TestAClientThatDoesNotWait(t *testing.T) {
 	world.tell("north", 4)
 	world.write()
 	is(t, "ann 4 ok acked 4 epoch 1", world.answer())
-	is(t, Verdict{Kind: Answered, Text: "refused 6 UnknownObject"}, world.ask("ann", 5, "add:milk:-1"))
+	is(t, Verdict{Kind: Answered, Answer: script.Answer{Refusal: script.Refusal{Number: 6, Name: "UnknownObject"}}}, world.ask("ann", 5, "add:milk:-1"))
 }
 
 func TestAnAnswerIsToldOnceItsEntryIsWritten(t *testing.T) {
@@ -199,7 +199,7 @@ func TestAnAnswerIsToldOnceItsEntryIsWritten(t *testing.T) {
 	world.tell("south", 0)
 	is(t, Verdict{Kind: Waits}, world.ask("bob", 1, "add:tea:-1"))
 	world.keep(first)
-	is(t, Verdict{Kind: Answered, Text: "ok acked 1 epoch 1"}, world.ask("ann", 1, "add:tea:-1"))
+	is(t, Verdict{Kind: Answered, Answer: script.Answer{Place: 1, Epoch: 1}}, world.ask("ann", 1, "add:tea:-1"))
 	is(t, Verdict{Kind: Waits}, world.ask("bob", 1, "add:tea:-1"))
 	second := world.seal()
 	is(t, 0, len(second.Answers)) // The limit of north is 1, and it told nothing.
@@ -262,7 +262,7 @@ func TestWhatNobodyWaitsForIsWrittenLater(t *testing.T) {
 	world.write()
 	world.tell("south", 1)
 	again, err := world.core.Work(world.now)
-	is(t, []interface{}{Later, nil}, []interface{}{again, err})
+	is(t, []any{Later, nil}, []any{again, err})
 	is(t, 0, world.write())
 	world.now += Later
 	is(t, 1, world.write())
@@ -315,7 +315,7 @@ func TestWhatIsNoScript(t *testing.T) {
 	}
 	wrong := *entry(1)
 	wrong.Steps = append([]script.Step{}, wrong.Steps...)
-	wrong.Steps[len(wrong.Steps)-1].Text = "ok acked 2 epoch 1"
+	wrong.Steps[len(wrong.Steps)-1].Answer = script.Answer{Place: 2, Epoch: 1}
 	core = New(config("p2"), 1)
 	is(t, nil, core.Replay(1, entry(0)))
 	if _, isBroken := core.Replay(2, &wrong).(*BrokenError); !isBroken {

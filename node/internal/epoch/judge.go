@@ -4,7 +4,7 @@ import (
 	"fmt"
 	"strings"
 
-	"ordup-node/internal/script"
+	"ordup.dev/node/internal/script"
 )
 
 // A Judge refuses entries that no right primary writes, by what stands in them alone. It is for a process that has no core, as a site.
@@ -17,90 +17,90 @@ type Judge struct {
 }
 
 // Take refuses an entry by a BrokenError, or takes it.
-func (judge *Judge) Take(number int64, entry *script.Entry) error {
-	if why := judge.take(number, entry); why != "" {
+func (j *Judge) Take(number int64, entry *script.Entry) error {
+	if why := j.take(number, entry); why != "" {
 		return &BrokenError{number, why}
 	}
 	return nil
 }
 
-func (judge *Judge) take(number int64, entry *script.Entry) string {
-	if why := judge.enter(entry); why != "" {
+func (j *Judge) take(number int64, entry *script.Entry) string {
+	if why := j.enter(entry); why != "" {
 		return why
 	}
 	for at := range entry.Steps {
 		step := &entry.Steps[at]
-		if !belongs(step.Kind, judge.ended, entry.Begins()) {
+		if !belongs(step.Kind, j.ended, entry.Begins()) {
 			return fmt.Sprintf("the step %s does not belong there", step.Kind)
 		}
-		if why := judge.lawless(step); why != "" {
+		if why := j.lawless(step); why != "" {
 			return why
 		}
-		if why := judge.note(number, step); why != "" {
+		if why := j.note(number, step); why != "" {
 			return why
 		}
 	}
 	if entry.Begins() {
-		judge.ended = false
+		j.ended = false
 	}
-	for _, site := range judge.sites.all {
-		if site.applied > judge.updates {
-			return fmt.Sprintf("the site %s has told %d updates, and there are %d", site.name, site.applied, judge.updates)
+	for _, site := range j.sites.all {
+		if site.applied > j.updates {
+			return fmt.Sprintf("the site %s has told %d updates, and there are %d", site.name, site.applied, j.updates)
 		}
 	}
 	return ""
 }
 
 // enter looks at the epoch of an entry.
-func (judge *Judge) enter(entry *script.Entry) string {
+func (j *Judge) enter(entry *script.Entry) string {
 	switch {
-	case judge.ended && entry.Epoch == judge.epoch:
-		return fmt.Sprintf("the epoch %d has ended before it", judge.epoch)
-	case judge.ended || entry.Epoch == judge.epoch:
+	case j.ended && entry.Epoch == j.epoch:
+		return fmt.Sprintf("the epoch %d has ended before it", j.epoch)
+	case j.ended || entry.Epoch == j.epoch:
 	default:
-		if why := judge.unended(); why != "" && judge.epoch > 0 {
+		if why := j.unended(); why != "" && j.epoch > 0 {
 			return why
 		}
-		judge.ended, judge.carried = true, map[string]*int64{}
+		j.ended, j.carried = true, map[string]*int64{}
 	}
 	if !entry.Begins() {
 		return ""
 	}
-	if why := judge.checkSettings(entry.Steps[0].Settings); why != "" && judge.epoch > 0 {
+	if why := j.checkSettings(entry.Steps[0].Settings); why != "" && j.epoch > 0 {
 		return why
 	}
-	judge.state = state{epoch: entry.Epoch, settings: *entry.Steps[0].Settings}
-	judge.numbers = judge.carried
+	j.state = state{epoch: entry.Epoch, settings: *entry.Steps[0].Settings}
+	j.numbers = j.carried
 	return ""
 }
 
 // note notes a step, or tells why a client cannot ask under the number.
-func (judge *Judge) note(number int64, step *script.Step) string {
+func (j *Judge) note(number int64, step *script.Step) string {
 	switch step.Kind {
 	case script.Declare:
-		if words := strings.Fields(step.Text); len(words) > 1 && words[0] == "site" {
-			judge.sites.add(strings.Clone(words[1]))
+		if words := strings.Fields(step.Words); len(words) > 1 && words[0] == "site" {
+			j.sites.add(strings.Clone(words[1]))
 		}
 	case script.Known:
-		numberOf(judge.carried, step.Name, step.Number)
+		numberOf(j.carried, step.Client, step.Number)
 	case script.Ask:
-		last := numberOf(judge.numbers, step.Name, 0)
+		last := numberOf(j.numbers, step.Client, 0)
 		if step.Number <= *last {
 			return asksAgain(step, *last)
 		}
-		*last, judge.asks, judge.updates = step.Number, judge.asks+1, judge.updates+1
-	case script.Answer:
-		if strings.HasPrefix(step.Text, "refused ") {
-			judge.updates--
+		*last, j.asks, j.updates = step.Number, j.asks+1, j.updates+1
+	case script.Answered:
+		if step.Answer.IsRefused() {
+			j.updates--
 		} else {
-			judge.acknowledged++
+			j.acknowledged++
 		}
 	case script.Wish:
-		judge.noteWish(step, number)
+		j.noteWish(step, number)
 	case script.Leave:
-		judge.sites.leave(step.Name, number)
+		j.sites.leave(step.Site, number)
 	case script.Tell, script.Gone:
-		site := judge.sites.of(step.Name)
+		site := j.sites.of(step.Site)
 		site.applied, site.gone = site.applied+step.Count, site.gone || step.Kind == script.Gone
 	}
 	return ""

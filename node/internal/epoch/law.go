@@ -3,7 +3,7 @@ package epoch
 import (
 	"fmt"
 
-	"ordup-node/internal/script"
+	"ordup.dev/node/internal/script"
 )
 
 // A state is what an epoch came to by its entries. Before the first one the epoch is 0.
@@ -19,18 +19,18 @@ type state struct {
 }
 
 // isDue is whether the epoch is to end.
-func (state *state) isDue() bool { return state.wish != nil || state.asks >= state.settings.Every }
+func (s *state) isDue() bool { return s.wish != nil || s.asks >= s.settings.Every }
 
 // nextSettings are those of the next epoch.
-func (state *state) nextSettings() script.Settings {
-	if state.wish == nil {
-		return state.settings
+func (s *state) nextSettings() script.Settings {
+	if s.wish == nil {
+		return s.settings
 	}
-	return state.wish.Settings
+	return s.wish.Settings
 }
 
-func (state *state) noteWish(step *script.Step, entry int64) {
-	state.wish, state.wished = &Wish{From: state.epoch, Settings: *step.Settings}, entry
+func (s *state) noteWish(step *script.Step, entry int64) {
+	s.wish, s.wished = &Wish{From: s.epoch, Settings: *step.Settings}, entry
 }
 
 // belongs is whether a step of this kind may be in an entry, after the epoch has ended or before, which begins an epoch or does not.
@@ -47,66 +47,66 @@ func belongs(kind script.Kind, ended, begins bool) bool {
 
 // asksAgain tells why a client cannot ask under a number.
 func asksAgain(step *script.Step, last int64) string {
-	return fmt.Sprintf("%s asks under %d after %d", step.Name, step.Number, last)
+	return fmt.Sprintf("%s asks under %d after %d", step.Client, step.Number, last)
 }
 
 // lawless tells why a step cannot come now, whatever the store answers, or "".
-func (state *state) lawless(step *script.Step) string {
+func (s *state) lawless(step *script.Step) string {
 	if step.Kind != script.Tell && step.Kind != script.Gone {
 		return ""
 	}
-	switch site := state.sites.of(step.Name); {
+	switch site := s.sites.of(step.Site); {
 	case site == nil:
-		return fmt.Sprintf("there is no site %s", step.Name)
-	case step.Count > state.updates-site.applied:
-		return fmt.Sprintf("the site %s tells %d updates after %d, and there are %d", step.Name, step.Count, site.applied, state.updates)
+		return fmt.Sprintf("there is no site %s", step.Site)
+	case step.Count > s.updates-site.applied:
+		return fmt.Sprintf("the site %s tells %d updates after %d, and there are %d", step.Site, step.Count, site.applied, s.updates)
 	case step.Kind == script.Gone && !site.leaves:
-		return fmt.Sprintf("the site %s is gone, and was not taken out", step.Name)
+		return fmt.Sprintf("the site %s is gone, and was not taken out", step.Site)
 	}
 	return ""
 }
 
 // unended tells why the epoch cannot end with what stands in the script, or "".
-func (state *state) unended() string {
-	if !state.isDue() {
-		return fmt.Sprintf("the epoch %d is not to end yet", state.epoch)
+func (s *state) unended() string {
+	if !s.isDue() {
+		return fmt.Sprintf("the epoch %d is not to end yet", s.epoch)
 	}
-	if state.acknowledged < state.updates {
-		return fmt.Sprintf("the epoch %d has %d updates, of which %d are acknowledged", state.epoch, state.updates, state.acknowledged)
+	if s.acknowledged < s.updates {
+		return fmt.Sprintf("the epoch %d has %d updates, of which %d are acknowledged", s.epoch, s.updates, s.acknowledged)
 	}
-	for _, site := range state.sites.all {
-		if site.holdsUp(state.updates) {
+	for _, site := range s.sites.all {
+		if site.holdsUp(s.updates) {
 			return fmt.Sprintf("the site %s has told %d of the %d updates of epoch %d, or may still serve", site.name, site.applied,
-				state.updates, state.epoch)
+				s.updates, s.epoch)
 		}
 	}
 	return ""
 }
 
 // checkSettings tells why the next epoch cannot have these settings, or "".
-func (state *state) checkSettings(begins *script.Settings) string {
-	if begins.Began != state.settings.Began {
-		return fmt.Sprintf("the script began with %v, and not with %v", state.settings.Began, begins.Began)
+func (s *state) checkSettings(begins *script.Settings) string {
+	if begins.Began != s.settings.Began {
+		return fmt.Sprintf("the script began with %v, and not with %v", s.settings.Began, begins.Began)
 	}
-	if next := state.nextSettings(); *begins != next {
+	if next := s.nextSettings(); *begins != next {
 		return fmt.Sprintf("it begins with the settings %v, and not with %v", *begins, next)
 	}
 	return ""
 }
 
 // checkBeginning looks whether an epoch begins with what the one before ended with, and what was wished.
-func (core *Core) checkBeginning(number int64, entry *script.Entry) error {
-	if why := core.checkSettings(entry.Steps[0].Settings); why != "" {
+func (c *Core) checkBeginning(number int64, entry *script.Entry) error {
+	if why := c.checkSettings(entry.Steps[0].Settings); why != "" {
 		return &BrokenError{number, why}
 	}
-	_, declarations, err := core.following()
+	_, declarations, err := c.following()
 	if err != nil {
 		return err
 	}
 	begins := entry.Steps[1:]
 	for at := 0; at < len(begins) || at < len(declarations); at++ {
-		if at == len(begins) || at == len(declarations) || begins[at].Text != declarations[at] {
-			return &BrokenError{number, fmt.Sprintf("its declarations differ at line %d from those that come after the epoch %d", at+1, core.epoch)}
+		if at == len(begins) || at == len(declarations) || begins[at].Words != declarations[at] {
+			return &BrokenError{number, fmt.Sprintf("its declarations differ at line %d from those that come after the epoch %d", at+1, c.epoch)}
 		}
 	}
 	return nil

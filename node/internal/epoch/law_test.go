@@ -6,7 +6,7 @@ import (
 	"strings"
 	"testing"
 
-	"ordup-node/internal/script"
+	"ordup.dev/node/internal/script"
 )
 
 // begun are the settings of an epoch of a script that began with those of the tests.
@@ -17,17 +17,18 @@ func begun() script.Settings {
 }
 
 func asks(client string, number int64) script.Step {
-	return script.Step{Kind: script.Ask, Name: client, Number: number, Text: "add:tea:-1"}
+	return script.Step{Kind: script.Ask, Client: client, Number: number, Words: "add:tea:-1"}
 }
 
 // Entries that no primary without a mistake writes are refused by all who run the script, with this in what they say. Before each the shop
 // has one update, which is acknowledged, and the next epoch is wished for. North has told nothing, and south has told all.
 func TestWhoRunsTheScriptDoesNotBelieveItsWriter(t *testing.T) {
 	ends := append([]string{"object tea 99"}, shop[1:]...)
-	known := script.Step{Kind: script.Known, Name: "ann", Number: 7, Digest: script.DigestOf("add:tea:-1"), Count: 1, Text: "ok acked 1 epoch 1"}
+	known := script.Step{Kind: script.Known, Client: "ann", Number: 7, Digest: script.DigestOf("add:tea:-1"), Epoch: 1,
+		Answer: script.Answer{Place: 1, Epoch: 1}}
 	other := begun()
 	other.Every = 7
-	tell := script.Step{Kind: script.Tell, Name: "north", Count: 1}
+	tell := script.Step{Kind: script.Tell, Site: "north", Count: 1}
 	for name, row := range map[string]struct {
 		entries []script.Entry
 		why     string
@@ -36,11 +37,11 @@ func TestWhoRunsTheScriptDoesNotBelieveItsWriter(t *testing.T) {
 		"a number before the last one":  {[]script.Entry{{Epoch: 1, Steps: []script.Step{asks("ann", 6)}}}, "ann asks under 6 after 7"},
 		"a number again in the entry":   {[]script.Entry{{Epoch: 1, Steps: []script.Step{asks("bob", 1), asks("bob", 1)}}}, "bob asks under 1 after 1"},
 		"one before it in the entry":    {[]script.Entry{{Epoch: 1, Steps: []script.Step{asks("bob", 5), asks("bob", 3)}}}, "bob asks under 3 after 5"},
-		"a site that was not taken out": {[]script.Entry{{Epoch: 1, Steps: []script.Step{{Kind: script.Gone, Name: "north"}}}}, "north is gone, and was not taken out"},
-		"more than there is":            {[]script.Entry{{Epoch: 1, Steps: []script.Step{{Kind: script.Tell, Name: "north", Count: 2}}}}, "north tells 2 updates after 0, and there are 1"},
+		"a site that was not taken out": {[]script.Entry{{Epoch: 1, Steps: []script.Step{{Kind: script.Gone, Site: "north"}}}}, "north is gone, and was not taken out"},
+		"more than there is":            {[]script.Entry{{Epoch: 1, Steps: []script.Step{{Kind: script.Tell, Site: "north", Count: 2}}}}, "north tells 2 updates after 0, and there are 1"},
 		"carried over before all told":  {[]script.Entry{{Epoch: 2, Steps: []script.Step{known}}}, "north has told 0 of the 1 updates"},
 		"a beginning before all told":   {[]script.Entry{{Epoch: 2, Steps: beginning(begun(), ends)}}, "north has told 0 of the 1 updates"},
-		"a beginning with a site not gone": {[]script.Entry{{Epoch: 1, Steps: []script.Step{tell, {Kind: script.Leave, Name: "north"}}},
+		"a beginning with a site not gone": {[]script.Entry{{Epoch: 1, Steps: []script.Step{tell, {Kind: script.Leave, Site: "north"}}},
 			{Epoch: 2, Steps: []script.Step{known}}}, "may still serve"},
 		"a beginning with other values": {[]script.Entry{{Epoch: 1, Steps: []script.Step{tell}}, {Epoch: 2, Steps: []script.Step{known}},
 			{Epoch: 2, Steps: beginning(begun(), shop)}}, "its declarations differ at line 1"},
@@ -92,7 +93,7 @@ func TestAnEpochThatIsNotDueDoesNotEnd(t *testing.T) {
 // An answer in the script is that of the client, the number and the changes, and not only of the same text.
 func TestAnAnswerIsOfWhoAsked(t *testing.T) {
 	for name, change := range map[string]func(*script.Step){
-		"client":  func(answer *script.Step) { answer.Name = "bob" },
+		"client":  func(answer *script.Step) { answer.Client = "bob" },
 		"number":  func(answer *script.Step) { answer.Number = 2 },
 		"changes": func(answer *script.Step) { answer.Digest = script.DigestOf("add:milk:-2") },
 	} {
@@ -109,13 +110,13 @@ func TestAnAnswerIsOfWhoAsked(t *testing.T) {
 }
 
 // readers have run the script, each in its way, and take the next entry by its text.
-func (world *world) readers() map[string]func(*script.Entry) error {
-	world.t.Helper()
-	core, judge := world.replay(config("p2")), &Judge{}
-	for at, text := range world.script {
+func (w *world) readers() map[string]func(*script.Entry) error {
+	w.t.Helper()
+	core, judge := w.replay(config("p2")), &Judge{}
+	for at, text := range w.script {
 		entry, err := script.Parse(text)
-		is(world.t, nil, err)
-		is(world.t, nil, judge.Take(int64(at+1), entry))
+		is(w.t, nil, err)
+		is(w.t, nil, judge.Take(int64(at+1), entry))
 	}
 	judged := core.Next()
 	return map[string]func(*script.Entry) error{

@@ -2,6 +2,6 @@
 
 package epoch
 
-import "ordup-node/internal/library"
+import "ordup.dev/node/internal/library"
 
 func init() { openStore = library.Open }

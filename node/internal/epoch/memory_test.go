@@ -6,7 +6,7 @@ import (
 	"strings"
 	"testing"
 
-	"ordup-node/internal/script"
+	"ordup.dev/node/internal/script"
 )
 
 // A process that runs the script keeps who asked, and not the entries: neither by a name that asks again, nor by one that is carried over.
@@ -30,10 +30,11 @@ func TestNoTextOfEntriesStaysInMemory(t *testing.T) {
 			world.script = nil
 			for client := 0; client < clients; client++ {
 				entry := &script.Entry{Epoch: 1, Ordup: "1", Writer: "p1"}
-				for fill := 0; fill <= 40; fill++ {
-					entry.Steps = append(entry.Steps, script.Step{Kind: script.Known, Name: "fill", Number: 1, Digest: "0", Count: 1, Text: filler})
+				for fill := 0; fill <= 1000; fill++ {
+					entry.Steps = append(entry.Steps, script.Step{Kind: script.Known, Client: "fill", Number: 1, Digest: strings.Repeat("0", 64), Epoch: 1,
+						Answer: script.Answer{Refusal: script.Refusal{Number: 1, Name: strings.Repeat("x", 64)}}})
 				}
-				entry.Steps[0].Name, entry.Steps[0].Text = fmt.Sprintf("c%d", client), "ok acked 1 epoch 1"
+				entry.Steps[0].Client, entry.Steps[0].Answer = fmt.Sprintf("c%d", client), script.Answer{Refusal: script.Refusal{Number: 6, Name: "UnknownObject"}}
 				world.script = append(world.script, entry.Text())
 			}
 			world.script = append(world.script, begins)

@@ -7,7 +7,7 @@ import (
 	"testing"
 	"time"
 
-	"ordup-node/internal/script"
+	"ordup.dev/node/internal/script"
 )
 
 // A random run: clients that ask again, sites that apply what is in the script, turns that are lost, writers that take over.
@@ -46,150 +46,151 @@ func TestRandomRuns(t *testing.T) {
 }
 
 // limit has each turn count so much at most, of which many then have no more room.
-func (run *randomRun) limit(room script.Room) {
-	run.room = room
-	run.config = func(writer string) Config {
+func (r *randomRun) limit(room script.Room) {
+	r.room = room
+	r.config = func(writer string) Config {
 		config := config(writer)
 		config.room = room
 		return config
 	}
-	run.core = run.replay(run.config("p1"))
+	r.core = r.replay(r.config("p1"))
 }
 
-func (run *randomRun) step() {
-	run.now += time.Duration(run.chance.Intn(200)) * time.Millisecond
-	client := fmt.Sprintf("c%d", run.chance.Intn(6))
-	switch dice := run.chance.Intn(100); {
+func (r *randomRun) step() {
+	r.now += time.Duration(r.chance.Intn(200)) * time.Millisecond
+	client := fmt.Sprintf("c%d", r.chance.Intn(6))
+	switch dice := r.chance.Intn(100); {
 	case dice < 35:
-		run.askSome(client)
+		r.askSome(client)
 	case dice < 55:
-		site := run.core.sites.all[run.chance.Intn(len(run.core.sites.all))]
-		run.core.Tell(Place{Site: site.name, Epoch: run.core.Epoch(), Applied: run.written(), Entry: run.core.written}, run.now)
+		site := r.core.sites.all[r.chance.Intn(len(r.core.sites.all))]
+		r.core.Tell(Place{Site: site.name, Epoch: r.core.Epoch(), Applied: r.written(), Entry: r.core.written}, r.now)
 	case dice < 80:
-		run.fly()
+		r.fly()
 	case dice < 90:
-		run.land()
+		r.land()
 	case dice < 93:
-		run.core.AskNext(Wish{From: run.core.Epoch() - int64(run.chance.Intn(2))})
+		r.core.AskNext(Wish{From: r.core.Epoch() - int64(r.chance.Intn(2))})
 	case dice < 96:
-		run.takeOver()
+		r.takeOver()
 	}
 }
 
 // written is how many updates of the epoch stand in the script, where a site may be.
-func (run *randomRun) written() int64 {
-	core := run.replay(run.config("site"))
-	if core.Epoch() != run.core.Epoch() || core.updates == 0 {
+func (r *randomRun) written() int64 {
+	core := r.replay(r.config("site"))
+	if core.Epoch() != r.core.Epoch() || core.updates == 0 {
 		return 0
 	}
-	return core.updates - int64(run.chance.Intn(2))
+	return core.updates - int64(r.chance.Intn(2))
 }
 
-func (run *randomRun) askSome(client string) {
-	if run.answers[key(client, run.numbers[client])] != "" || run.numbers[client] == 0 {
-		run.numbers[client]++
-		run.changes[client] = []string{"add:tea:-1", "add:tea:2 add:till:1", "set:till:7", "nonsense"}[run.chance.Intn(4)]
+func (r *randomRun) askSome(client string) {
+	if r.answers[key(client, r.numbers[client])] != "" || r.numbers[client] == 0 {
+		r.numbers[client]++
+		r.changes[client] = []string{"add:tea:-1", "add:tea:2 add:till:1", "set:till:7", "nonsense"}[r.chance.Intn(4)]
 	}
-	verdict := run.ask(client, run.numbers[client], run.changes[client])
+	verdict := r.ask(client, r.numbers[client], r.changes[client])
 	switch verdict.Kind {
 	case Answered:
-		run.hear(client, run.numbers[client], verdict.Text)
+		r.hear(client, r.numbers[client], verdict.Answer.String())
 	case Waits, NotNow:
 	default:
-		run.t.Errorf("%s has the verdict %v", client, verdict)
+		r.t.Errorf("%s has the verdict %v", client, verdict)
 	}
 }
 
 func key(client string, number int64) string { return fmt.Sprintf("%s %d", client, number) }
 
-func (run *randomRun) hear(client string, number int64, text string) {
-	if before := run.answers[key(client, number)]; before != "" && before != text {
-		run.t.Errorf("%s %d was told %s, and then %s", client, number, before, text)
+func (r *randomRun) hear(client string, number int64, text string) {
+	if before := r.answers[key(client, number)]; before != "" && before != text {
+		r.t.Errorf("%s %d was told %s, and then %s", client, number, before, text)
 	}
-	run.answers[key(client, number)] = text
+	r.answers[key(client, number)] = text
 }
 
 // fly seals a turn where none is on its way.
-func (run *randomRun) fly() {
-	if run.flying == nil {
-		run.flying = run.seal()
+func (r *randomRun) fly() {
+	if r.flying == nil {
+		r.flying = r.seal()
 	}
 }
 
 // land writes the turn that is on its way.
-func (run *randomRun) land() {
-	if run.flying == nil {
+func (r *randomRun) land() {
+	if r.flying == nil {
 		return
 	}
-	for _, answer := range run.flying.Answers {
-		run.hear(answer.Name, answer.Number, answer.Text)
+	for _, answer := range r.flying.Answers {
+		r.hear(answer.Client, answer.Number, answer.Answer.String())
 	}
-	run.keep(run.flying)
-	run.flying = nil
+	r.keep(r.flying)
+	r.flying = nil
 }
 
 // takeOver has another writer go on. What was on its way is written or lost, and told to nobody.
-func (run *randomRun) takeOver() {
-	if run.flying != nil && run.chance.Intn(2) == 0 {
-		run.script = append(run.script, run.flying.Text)
-		if run.flying.First > 0 {
-			run.first = run.flying.First
+func (r *randomRun) takeOver() {
+	if r.flying != nil && r.chance.Intn(2) == 0 {
+		r.script = append(r.script, r.flying.Text)
+		if r.flying.First > 0 {
+			r.first = r.flying.First
 		}
 	}
-	run.flying = nil
-	run.core = run.replay(run.config(fmt.Sprintf("p%d", len(run.script))))
-	turn := run.core.TakeOver()
-	if err := run.core.Replay(turn.Number, turn.Entry()); err != nil {
-		run.t.Error(err)
+	r.flying = nil
+	r.core = r.replay(r.config(fmt.Sprintf("p%d", len(r.script))))
+	turn := r.core.TakeOver()
+	if err := r.core.Replay(turn.Number, turn.Entry()); err != nil {
+		r.t.Error(err)
 	}
-	run.keep(turn)
+	r.keep(turn)
 }
 
 // judge looks at the whole script: each number is asked once and answered once, as was told; each epoch begins with what was before.
-func (run *randomRun) judge() {
+func (r *randomRun) judge() {
 	asked, answered, tea, epoch, judge := map[string]bool{}, map[string]string{}, int64(100), int64(0), &Judge{}
-	for at, text := range run.script {
+	for at, text := range r.script {
 		entry, err := script.Parse(text)
 		if err != nil {
-			run.t.Fatal(err)
+			r.t.Fatal(err)
 		}
-		run.keepsToRoom(entry)
-		is(run.t, nil, judge.Take(int64(at+1), entry))
+		r.keepsToRoom(entry)
+		is(r.t, nil, judge.Take(int64(at+1), entry))
 		if entry.Begins() {
-			if epoch++; entry.Epoch != epoch || entry.Steps[1].Text != fmt.Sprintf("object tea %d", tea) {
-				run.t.Errorf("epoch %d begins with %s, and not %d", entry.Epoch, entry.Steps[1].Text, tea)
+			epoch++
+			if entry.Epoch != epoch || entry.Steps[1].Words != fmt.Sprintf("object tea %d", tea) {
+				r.t.Errorf("epoch %d begins with %s, and not %d", entry.Epoch, entry.Steps[1].Words, tea)
 			}
 		}
 		for _, step := range entry.Steps {
-			switch name := key(step.Name, step.Number); step.Kind {
+			switch name := key(step.Client, step.Number); step.Kind {
 			case script.Ask:
 				if asked[name] {
-					run.t.Errorf("%s is asked twice", name)
+					r.t.Errorf("%s is asked twice", name)
 				}
 				asked[name] = true
-				if strings.HasPrefix(step.Text, "add:tea:") {
-					tea += map[bool]int64{true: -1, false: 2}[step.Text == "add:tea:-1"]
+				if strings.HasPrefix(step.Words, "add:tea:") {
+					tea += map[bool]int64{true: -1, false: 2}[step.Words == "add:tea:-1"]
 				}
-			case script.Answer:
+			case script.Answered:
 				if answered[name] != "" {
-					run.t.Errorf("%s is answered twice", name)
+					r.t.Errorf("%s is answered twice", name)
 				}
-				answered[name] = step.Text
+				answered[name] = step.Answer.String()
 			}
 		}
 	}
-	for name, text := range run.answers {
+	for name, text := range r.answers {
 		if answered[name] != text {
-			run.t.Errorf("%s was told %s, and the script has %s", name, text, answered[name])
+			r.t.Errorf("%s was told %s, and the script has %s", name, text, answered[name])
 		}
 	}
 }
 
-func (run *randomRun) keepsToRoom(entry *script.Entry) {
-	room := run.room
+func (r *randomRun) keepsToRoom(entry *script.Entry) {
+	room := r.room
 	for at := range entry.Steps {
-		if run.room > 0 && !room.Take(&entry.Steps[at]) {
-			run.t.Errorf("an entry counts more than %d: %s", run.room, entry.Text())
+		if r.room > 0 && !room.Take(&entry.Steps[at]) {
+			r.t.Errorf("an entry counts more than %d: %s", r.room, entry.Text())
 		}
 	}
 }

@@ -1,197 +1,217 @@
 package epoch
 
 import (
-	"bytes"
+	"errors"
 	"fmt"
-	"strconv"
 	"strings"
 
-	"ordup-node/internal/script"
+	"ordup.dev/ordup/answer"
+
+	"ordup.dev/node/internal/script"
 )
 
 // run runs steps, and notes what comes of them. After an error the core is of no more use.
-func (core *Core) run(steps []script.Step) error {
-	if core.failure == nil {
-		core.failure = core.runAll(steps)
+func (c *Core) run(steps []script.Step) error {
+	if c.failure == nil {
+		c.failure = c.runAll(steps)
 	}
-	return core.failure
+	return c.failure
 }
 
-func (core *Core) runAll(steps []script.Step) error {
+func (c *Core) runAll(steps []script.Step) error {
 	if len(steps) > 0 && steps[0].Kind == script.Begin {
-		if err := core.begin(steps[0].Settings); err != nil {
+		if err := c.begin(steps[0].Settings); err != nil {
 			return err
 		}
 	}
-	core.lines = core.lines[:0]
+	c.lines = c.lines[:0]
 	for at := range steps {
-		core.lines = steps[at].AppendLines(core.lines)
+		c.lines = steps[at].AppendLines(c.lines)
 	}
 	answers := answers{}
-	if len(core.lines) > 0 {
-		if core.store == nil {
-			return &BrokenError{core.running, "it comes before the beginning of its epoch"}
+	if len(c.lines) > 0 {
+		if c.store == nil {
+			return &BrokenError{c.running, "it comes before the beginning of its epoch"}
 		}
-		given, err := core.store.Run(core.lines)
+		given, err := c.store.Answers(c.lines)
 		if err != nil {
-			return err
+			return c.unanswered(err)
 		}
 		answers.rest = given
 	}
 	for at := range steps {
-		if why := core.lawless(&steps[at]); why != "" {
-			return &BrokenError{core.running, why}
+		if why := c.lawless(&steps[at]); why != "" {
+			return &BrokenError{c.running, why}
 		}
-		core.note(&steps[at], &answers)
+		c.note(&steps[at], &answers)
 		if answers.bad != "" {
-			return &BrokenError{core.running, fmt.Sprintf("the store answers %.80q to the step %s", answers.bad, steps[at].Kind)}
+			return &BrokenError{c.running, fmt.Sprintf("the store answers %.80s to the step %s", answers.bad, steps[at].Kind)}
 		}
 	}
 	return nil
 }
 
+// unanswered is the error of lines that have no answers: where the store answers what is none, it is none of this script.
+func (c *Core) unanswered(err error) error {
+	var unknown *answer.UnknownError
+	if errors.As(err, &unknown) {
+		return &BrokenError{c.running, unknown.Error()}
+	}
+	return fmt.Errorf("run the lines of the entry %d: %w", c.running, err)
+}
+
 // note notes what came of a step.
-func (core *Core) note(step *script.Step, answers *answers) {
+func (c *Core) note(step *script.Step, answers *answers) {
 	switch step.Kind {
 	case script.Declare:
-		if name, isSite := answers.declared(); isSite {
-			core.sites.add(name)
-		} else if words := strings.Fields(step.Text); len(words) > 2 && words[0] == "limit" && core.sites.of(words[1]) != nil {
-			site := core.sites.of(words[1])
-			site.limits = append(site.limits, strings.Join(words[2:], " "))
-		}
+		c.noteDeclared(step, answers)
 	case script.Known:
-		core.carry.clients.carry(step, core.running)
+		c.carry.clients.carry(step, c.running)
 	case script.Ask:
-		core.noteAsk(step, answers)
+		c.noteAsk(step, answers)
 	case script.Elapsed:
-		core.clock += step.Count
+		c.clock += step.Seconds
 	case script.Settle:
 		for count := int64(0); count < step.Count; count++ {
-			core.noteSettle(answers)
+			c.noteSettle(answers)
 		}
 	case script.Tell:
-		core.noteTell(step, answers)
+		c.noteTell(step, answers)
 	case script.Wish:
-		core.noteWish(step, core.running)
+		c.noteWish(step, c.running)
 	case script.Want:
-		core.wish.Declarations = append(core.wish.Declarations, step.Text)
+		c.wish.Declarations = append(c.wish.Declarations, step.Words)
 	case script.Leave:
-		core.sites.leave(step.Name, core.running)
+		c.sites.leave(step.Site, c.running)
 	case script.Gone:
-		core.noteTell(step, answers)
-		core.sites.of(step.Name).gone = true
+		c.noteTell(step, answers)
+		c.sites.of(step.Site).gone = true
 	}
 }
 
-func (core *Core) noteAsk(step *script.Step, answers *answers) {
-	asked := asker{step.Name, step.Number, step.Digest}
-	core.asks++
-	line := answers.next()
-	if place, isProposed := numberAfter(line, "ok proposed "); isProposed && place == core.updates+1 {
-		core.updates++
-		core.waiting.push(asked)
-	} else if bytes.HasPrefix(line, []byte("refused ")) {
-		core.decide(asked, string(line))
-	} else {
-		answers.refuse(line)
+func (c *Core) noteDeclared(step *script.Step, answers *answers) {
+	given := answers.next()
+	switch given := given.(type) {
+	case answer.Started:
+		return
+	case answer.Declared:
+		words := strings.Fields(step.Words)
+		switch site := c.sites.of(given.Name); {
+		case given.Kind == "site":
+			c.sites.add(strings.Clone(given.Name))
+		case given.Kind == "limit" && site != nil && len(words) > 2:
+			site.limits = append(site.limits, strings.Join(words[2:], " "))
+		}
+		return
 	}
+	answers.refuse(given)
 }
 
-func (core *Core) noteSettle(answers *answers) {
-	line := answers.next()
-	if place, isAcked := numberAfter(line, "ok acked "); isAcked && place == core.acknowledged+1 && place <= core.updates {
-		core.acknowledged, core.round = place, nil
-		core.decide(core.waiting.pop(), ackedText(place, core.epoch))
+func (c *Core) noteAsk(step *script.Step, answers *answers) {
+	asked := asker{step.Client, step.Number, step.Digest}
+	c.asks++
+	given := answers.next()
+	switch given := given.(type) {
+	case answer.Proposed:
+		if int64(given.Place) == c.updates+1 {
+			c.updates++
+			c.waiting.push(asked)
+			return
+		}
+	case *answer.Refused:
+		c.decide(asked, script.Answer{Refusal: RefusalOf(given)})
 		return
 	}
-	words := bytes.Split(line, []byte(" "))
-	if len(words) < 4 || string(words[0]) != "ok" || string(words[1]) != "round" && string(words[1]) != "waiting" {
-		answers.refuse(line)
+	answers.refuse(given)
+}
+
+// RefusalOf is a refusal of a store as an entry has it. The name is a copy: that of the store is a part of all its answers.
+func RefusalOf(given *answer.Refused) script.Refusal {
+	return script.Refusal{Number: int64(given.Number), Name: strings.Clone(given.Name)}
+}
+
+func (c *Core) noteSettle(answers *answers) {
+	given := answers.next()
+	settled, isSettled := given.(answer.Settled)
+	if !isSettled {
+		answers.refuse(given)
 		return
 	}
-	isNew := core.round == nil
-	core.round = nil
-	for _, name := range words[3:] {
-		core.round = append(core.round, string(name))
-		if site := core.sites.of(string(name)); site != nil && isNew {
+	if settled.State != answer.Acked {
+		c.noteRound(settled.Sites)
+		return
+	}
+	place := int64(settled.Place)
+	if place != c.acknowledged+1 || place > c.updates {
+		answers.refuse(given)
+		return
+	}
+	c.acknowledged, c.round = place, nil
+	c.decide(c.waiting.pop(), script.Answer{Place: place, Epoch: c.epoch})
+}
+
+// noteRound notes the sites that the head waits for.
+func (c *Core) noteRound(sites []string) {
+	isNew := c.round == nil
+	c.round = []string{}
+	for _, name := range sites {
+		site := c.sites.of(name)
+		if site == nil {
+			continue
+		}
+		c.round = append(c.round, site.name)
+		if isNew {
 			site.rounds++
 		}
 	}
 }
 
-// ackedText is the answer to a request whose update is acknowledged.
-func ackedText(place, epoch int64) string {
-	text := strconv.AppendInt(append(make([]byte, 0, 40), "ok acked "...), place, 10)
-	return string(strconv.AppendInt(append(text, " epoch "...), epoch, 10))
-}
-
-func (core *Core) noteTell(step *script.Step, answers *answers) {
+func (c *Core) noteTell(step *script.Step, answers *answers) {
 	for count := int64(0); count < step.Count; count++ {
-		answers.expect("ok sent ")
-		answers.expect("ok applied ")
+		given := answers.next()
+		if _, isSent := given.(answer.Sent); !isSent {
+			answers.refuse(given)
+		}
+		given = answers.next()
+		if _, isApplied := given.(answer.Applied); !isApplied {
+			answers.refuse(given)
+		}
 	}
-	site := core.sites.of(step.Name)
-	line := answers.next()
-	place, isReported := numberAfter(line, "ok reported "+step.Name+" ")
-	if !isReported || place != site.applied+step.Count {
-		answers.refuse(line)
+	site := c.sites.of(step.Site)
+	given := answers.next()
+	reported, isReported := given.(answer.Reported)
+	if place := site.applied + step.Count; !isReported || reported.Site != site.name || int64(reported.Applied) != place {
+		answers.refuse(given)
 		return
 	}
-	site.applied = place
+	site.applied += step.Count
 }
 
 // decide has the answer to a request in the entry that is run.
-func (core *Core) decide(asked asker, text string) {
-	core.clients.answer(asked, text, core.running)
-	core.decided = append(core.decided,
-		script.Step{Kind: script.Answer, Name: asked.name, Number: asked.number, Digest: asked.digest, Text: text})
+func (c *Core) decide(asked asker, decided script.Answer) {
+	c.clients.answer(asked, decided, c.running)
+	c.decided = append(c.decided,
+		script.Step{Kind: script.Answered, Client: asked.name, Number: asked.number, Digest: asked.digest, Answer: decided})
 }
 
-// answers reads the answers of a store line by line, and keeps the first one that is not what it should be.
+// answers gives the answers of a store one by one, and keeps the first one that is not what it should be.
 type answers struct {
-	rest []byte
+	rest []answer.Answer
 	bad  string
 }
 
-func (answers *answers) next() []byte {
-	end := bytes.IndexByte(answers.rest, '\n')
-	if end < 0 {
-		answers.bad = "nothing"
+// next is the next answer, or nil.
+func (a *answers) next() answer.Answer {
+	if len(a.rest) == 0 {
 		return nil
 	}
-	line := answers.rest[:end]
-	answers.rest = answers.rest[end+1:]
-	return line
+	given := a.rest[0]
+	a.rest = a.rest[1:]
+	return given
 }
 
-func (answers *answers) refuse(line []byte) {
-	if answers.bad == "" {
-		answers.bad = string(line)
+func (a *answers) refuse(given answer.Answer) {
+	if a.bad == "" {
+		a.bad = fmt.Sprintf("%T %+v", given, given)
 	}
-}
-
-func (answers *answers) expect(prefix string) {
-	if line := answers.next(); len(line) < len(prefix) || string(line[:len(prefix)]) != prefix {
-		answers.refuse(line)
-	}
-}
-
-// declared reads the answer to a declaration: the name, and whether it is a site's.
-func (answers *answers) declared() (string, bool) {
-	line := answers.next()
-	if !bytes.HasPrefix(line, []byte("ok ")) {
-		answers.refuse(line)
-	}
-	name := bytes.TrimPrefix(line, []byte("ok site "))
-	return string(name), len(name) < len(line)
-}
-
-// numberAfter is the number that follows a prefix and ends the line.
-func numberAfter(line []byte, prefix string) (int64, bool) {
-	if len(line) <= len(prefix) || string(line[:len(prefix)]) != prefix {
-		return 0, false
-	}
-	number, err := strconv.ParseInt(string(line[len(prefix):]), 10, 64)
-	return number, err == nil
 }

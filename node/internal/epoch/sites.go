@@ -5,7 +5,7 @@ import (
 	"fmt"
 	"time"
 
-	"ordup-node/internal/exit"
+	"ordup.dev/node/internal/exit"
 )
 
 // Near is how many updates a site may lack at the end of an epoch and still be here.
@@ -43,9 +43,9 @@ type CannotBeError struct {
 	Updates int64
 }
 
-func (err *CannotBeError) Error() string {
+func (e *CannotBeError) Error() string {
 	return fmt.Sprintf("the site %s told %d updates of epoch %d up to the entry %d, and there are %d",
-		err.Place.Site, err.Place.Applied, err.Place.Epoch, err.Place.Entry, err.Updates)
+		e.Place.Site, e.Place.Applied, e.Place.Epoch, e.Place.Entry, e.Updates)
 }
 
 // ExitStatus is that of a process which meets it.
@@ -72,18 +72,18 @@ type site struct {
 // sites has the sites of an epoch, in the order of their declarations.
 type sites struct{ all []*site }
 
-func (sites *sites) add(name string) { sites.all = append(sites.all, &site{name: name}) }
+func (s *sites) add(name string) { s.all = append(s.all, &site{name: name}) }
 
 // leave takes the site of a name out, if there is one.
-func (sites *sites) leave(name string, entry int64) {
-	if site := sites.of(name); site != nil {
+func (s *sites) leave(name string, entry int64) {
+	if site := s.of(name); site != nil {
 		site.leaves, site.left = true, entry
 	}
 }
 
 // of is the site of a name, or nil. There are at most 16.
-func (sites *sites) of(name string) *site {
-	for _, site := range sites.all {
+func (s *sites) of(name string) *site {
+	for _, site := range s.all {
 		if site.name == name {
 			return site
 		}
@@ -92,41 +92,41 @@ func (sites *sites) of(name string) *site {
 }
 
 // isHere is whether a site has told all of so many updates, or has told much of it, and something a short time ago.
-func (site *site) isHere(updates int64, now time.Duration) bool {
-	missing := updates - site.known()
-	return missing <= 0 || missing <= Near && site.wasHeard && now-site.heard < Away
+func (s *site) isHere(updates int64, now time.Duration) bool {
+	missing := updates - s.known()
+	return missing <= 0 || missing <= Near && s.wasHeard && now-s.heard < Away
 }
 
 // holdsUp is whether an epoch with so many updates cannot end yet for the site.
-func (site *site) holdsUp(updates int64) bool {
-	return site.applied < updates || site.leaves && !site.gone
+func (s *site) holdsUp(updates int64) bool {
+	return s.applied < updates || s.leaves && !s.gone
 }
 
 // known is how many updates the site has applied, whether or not it stands in the script.
-func (site *site) known() int64 {
-	if site.told > site.applied {
-		return site.told
+func (s *site) known() int64 {
+	if s.told > s.applied {
+		return s.told
 	}
-	return site.applied
+	return s.applied
 }
 
 // Tell takes the place of a site, which has shown it under its lease. It goes into an entry by Work.
-func (core *Core) Tell(place Place, now time.Duration) error {
-	if place.Epoch > core.epoch {
+func (c *Core) Tell(place Place, now time.Duration) error {
+	if place.Epoch > c.epoch {
 		return ErrBehind
 	}
-	if place.Epoch < core.epoch {
+	if place.Epoch < c.epoch {
 		return nil
 	}
-	site := core.sites.of(place.Site)
+	site := c.sites.of(place.Site)
 	switch {
-	case site == nil && core.begun > core.written || site != nil && site.left > core.written:
+	case site == nil && c.begun > c.written || site != nil && site.left > c.written:
 		return ErrBehind // That it is no site is not written yet.
 	case site == nil || site.leaves:
 		return fmt.Errorf("%w: the script has no site %s", ErrNoSite, place.Site)
-	case place.Applied < 0 || place.Applied > core.updates && place.Entry <= core.written:
-		return &CannotBeError{place, core.updates}
-	case place.Applied > core.updates:
+	case place.Applied < 0 || place.Applied > c.updates && place.Entry <= c.written:
+		return &CannotBeError{place, c.updates}
+	case place.Applied > c.updates:
 		return ErrBehind
 	case place.Applied > site.known():
 		site.told, site.heard, site.wasHeard = place.Applied, now, true

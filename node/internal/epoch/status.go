@@ -38,28 +38,28 @@ type SiteStatus struct {
 }
 
 // Status tells what there is.
-func (core *Core) Status(now time.Duration) Status {
+func (c *Core) Status(now time.Duration) Status {
 	status := Status{
-		Epoch: core.epoch, Entries: core.entries, Written: core.written, Requests: core.asks, Updates: core.updates,
-		Acknowledged: core.acknowledged, Clients: len(core.clients), Due: core.store != nil && core.isDue(), Ending: core.carry != nil,
+		Epoch: c.epoch, Entries: c.entries, Written: c.written, Requests: c.asks, Updates: c.updates,
+		Acknowledged: c.acknowledged, Clients: len(c.clients), Due: c.store != nil && c.isDue(), Ending: c.carry != nil,
 	}
-	if status.Due && core.dueSince > 0 {
-		status.DueSince = now - core.dueSince
+	if status.Due && c.dueSince > 0 {
+		status.DueSince = now - c.dueSince
 	}
-	if core.roundSince > 0 {
-		status.HeadWaits = now - core.roundSince
+	if c.roundSince > 0 {
+		status.HeadWaits = now - c.roundSince
 	}
-	for _, site := range core.sites.all {
+	for _, site := range c.sites.all {
 		seen := SiteStatus{Name: site.name, Applied: site.known(), Rounds: site.rounds, HasTold: site.spokeOnce,
-			Leaves: site.leaves, Gone: site.gone, Limits: site.limits, JoinWaits: status.Due && core.carry == nil && site.holdsUp(core.updates)}
-		if missing := core.acknowledged - site.known(); missing > 0 {
+			Leaves: site.leaves, Gone: site.gone, Limits: site.limits, JoinWaits: status.Due && c.carry == nil && site.holdsUp(c.updates)}
+		if missing := c.acknowledged - site.known(); missing > 0 {
 			seen.Missing = missing
 		}
 		if site.spokeOnce {
 			seen.Told = now - site.spoke
 		}
-		for _, name := range core.round {
-			seen.Waited = seen.Waited || name == site.name && site.known() <= core.acknowledged
+		for _, name := range c.round {
+			seen.Waited = seen.Waited || name == site.name && site.known() <= c.acknowledged
 		}
 		status.Sites = append(status.Sites, seen)
 	}
@@ -67,9 +67,9 @@ func (core *Core) Status(now time.Duration) Status {
 }
 
 // IsIdle is whether all that was run is in the script.
-func (core *Core) IsIdle() bool {
-	return len(core.turn.steps) == 0 && len(core.decided) == 0 && core.written == core.entries
+func (c *Core) IsIdle() bool {
+	return len(c.turn.steps) == 0 && len(c.decided) == 0 && c.written == c.entries
 }
 
 // Failure is the error by which the core is of no more use, if there was one.
-func (core *Core) Failure() error { return core.failure }
+func (c *Core) Failure() error { return c.failure }

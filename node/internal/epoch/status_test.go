@@ -31,7 +31,7 @@ func TestAStatusSaysWhatIsWaitedFor(t *testing.T) {
 	world.tell("south", 1)
 	is(t, time.Duration(0), of("south").Told)
 	status := world.core.Status(world.now)
-	is(t, []interface{}{true, time.Minute}, []interface{}{status.Due, status.DueSince})
+	is(t, []any{true, time.Minute}, []any{status.Due, status.DueSince})
 }
 
 // Each head waits for its own round, and between two of them none does.

@@ -4,7 +4,7 @@ import (
 	"fmt"
 	"time"
 
-	"ordup-node/internal/script"
+	"ordup.dev/node/internal/script"
 )
 
 const (
@@ -13,6 +13,8 @@ const (
 	askBytes, turnBytes = 256 << 10, 512 << 10
 	// carryBytes is how large an entry is that carries over clients. No request is taken until all have come, so they are few.
 	carryBytes = 896 << 10
+	// answerBytes is as much as an answer has, or more, beside what is counted for any step.
+	answerBytes = 32
 	// turnCounts is what the steps of a turn count at most: less than script.MostCounted, since who reads it runs it at once.
 	turnCounts = 200_000
 	// mostTold is how many updates that sites told are added by one call of Work.
@@ -31,9 +33,9 @@ type Request struct {
 // A Verdict is what becomes of a request.
 type Verdict struct {
 	Kind VerdictKind
-	// Of Answered: the answer of the store. Last is, of Passed, the number under which the client asked last.
-	Text string
-	Last int64
+	// Of Answered: what was decided. Last is, of Passed, the number under which the client asked last.
+	Answer script.Answer
+	Last   int64
 }
 
 // A VerdictKind is one of what may become of a request.
@@ -70,25 +72,25 @@ type Turn struct {
 }
 
 // Ask takes requests. The verdicts are in their order. With an error the core is of no more use.
-func (core *Core) Ask(requests []Request, now time.Duration) ([]Verdict, error) {
+func (c *Core) Ask(requests []Request, now time.Duration) ([]Verdict, error) {
 	verdicts := make([]Verdict, len(requests))
-	steps := core.elapsed(make([]script.Step, 0, len(requests)+1), now)
-	clock, none := core.clock, len(steps)
+	steps := c.elapsed(make([]script.Step, 0, len(requests)+1), now)
+	clock, none := c.clock, len(steps)
 	for at := range steps {
-		clock += steps[at].Count
+		clock += steps[at].Seconds
 	}
-	ends, bytes := core.ends(now), core.turn.bytes
+	ends, bytes := c.ends(now), c.turn.bytes
 	for at := range requests {
-		verdict := core.verdict(&requests[at])
+		verdict := c.verdict(&requests[at])
 		switch {
 		case verdict.Kind != 0:
 		case ends || bytes >= askBytes:
 			verdict.Kind = NotNow
 		default:
-			step := script.Step{Kind: script.Ask, Name: requests[at].Client, Number: requests[at].Number,
-				Digest: script.DigestOf(requests[at].Changes), Text: requests[at].Changes}
-			step.Name = core.clients.take(client{name: step.Name, number: step.Number, digest: step.Digest, epoch: core.epoch,
-				asked: core.Next(), time: clock})
+			step := script.Step{Kind: script.Ask, Client: requests[at].Client, Number: requests[at].Number,
+				Digest: script.DigestOf(requests[at].Changes), Words: requests[at].Changes}
+			step.Client = c.clients.take(client{name: step.Client, number: step.Number, digest: step.Digest, epoch: c.epoch,
+				asked: c.Next(), time: clock})
 			steps = append(steps, step)
 			bytes += sizeOf(&step)
 			verdict.Kind = Waits
@@ -98,137 +100,143 @@ func (core *Core) Ask(requests []Request, now time.Duration) ([]Verdict, error) 
 	if len(steps) == none {
 		return verdicts, nil
 	}
-	return verdicts, core.add(steps)
+	return verdicts, c.add(steps)
 }
 
 // elapsed appends the step for the whole seconds that have passed since this writer noted some.
-func (core *Core) elapsed(steps []script.Step, now time.Duration) []script.Step {
-	if core.timed == 0 {
-		core.timed = now
+func (c *Core) elapsed(steps []script.Step, now time.Duration) []script.Step {
+	if c.timed == 0 {
+		c.timed = now
 	}
-	seconds := int64((now - core.timed) / time.Second)
+	seconds := int64((now - c.timed) / time.Second)
 	if seconds > script.MostCounted {
 		seconds = script.MostCounted
 	}
 	if seconds > 0 {
-		steps = append(steps, script.Step{Kind: script.Elapsed, Count: seconds})
+		steps = append(steps, script.Step{Kind: script.Elapsed, Seconds: seconds})
 	}
 	return steps
 }
 
 // verdict is what becomes of a request, if it need not be run.
-func (core *Core) verdict(request *Request) Verdict {
+func (c *Core) verdict(request *Request) Verdict {
 	if !script.IsClient(request.Client) || !script.IsNumber(request.Number) || !script.IsChanges(request.Changes) {
 		return Verdict{Kind: Malformed}
 	}
-	last := core.clients[request.Client]
+	last := c.clients[request.Client]
 	switch {
 	case request.Number > last.number:
 		return Verdict{}
-	case last.asked > core.written && (request.Number < last.number || script.DigestOf(request.Changes) != last.digest):
+	case last.asked > c.written && (request.Number < last.number || script.DigestOf(request.Changes) != last.digest):
 		return Verdict{Kind: NotNow}
 	case request.Number < last.number:
 		return Verdict{Kind: Passed, Last: last.number}
 	case script.DigestOf(request.Changes) != last.digest:
 		return Verdict{Kind: Differs}
-	case last.entry == 0 || last.entry > core.written:
+	case last.entry == 0 || last.entry > c.written:
 		return Verdict{Kind: Waits}
 	}
-	return Verdict{Kind: Answered, Text: last.text}
+	return Verdict{Kind: Answered, Answer: last.answer}
 }
 
 // add runs steps in the open turn.
-func (core *Core) add(steps []script.Step) error {
+func (c *Core) add(steps []script.Step) error {
 	if len(steps) == 0 {
 		return nil
 	}
-	core.running = core.entries + 1
-	decided := len(core.decided)
-	if err := core.run(steps); err != nil {
+	c.running = c.entries + 1
+	decided := len(c.decided)
+	if err := c.run(steps); err != nil {
 		return err
 	}
-	core.turn.steps = append(core.turn.steps, steps...)
+	c.turn.steps = append(c.turn.steps, steps...)
 	for at := range steps {
-		core.turn.bytes += sizeOf(&steps[at])
-		core.turn.room.Take(&steps[at])
+		c.turn.bytes += sizeOf(&steps[at])
+		c.turn.room.Take(&steps[at])
 		if steps[at].Kind == script.Elapsed {
-			core.timed += time.Duration(steps[at].Count) * time.Second
+			c.timed += time.Duration(steps[at].Seconds) * time.Second
 		}
 	}
-	for at := decided; at < len(core.decided); at++ {
-		core.turn.bytes += sizeOf(&core.decided[at])
+	for at := decided; at < len(c.decided); at++ {
+		c.turn.bytes += sizeOf(&c.decided[at])
 	}
 	return nil
 }
 
 // sizeOf is at least how many bytes the line of a step has.
-func sizeOf(step *script.Step) int { return 64 + len(step.Name) + len(step.Digest) + len(step.Text) }
+func sizeOf(step *script.Step) int {
+	size := 64 + len(step.Client) + len(step.Site) + len(step.Digest) + len(step.Words)
+	if step.Kind == script.Answered {
+		size += answerBytes
+	}
+	return size
+}
 
 // Work adds to the open turn what sites told, and asks for acknowledgements. It returns after how long it has more to do though
 // nothing comes, or 0.
-func (core *Core) Work(now time.Duration) (time.Duration, error) {
-	if core.epoch == 0 || core.carry != nil {
+func (c *Core) Work(now time.Duration) (time.Duration, error) {
+	if c.epoch == 0 || c.carry != nil {
 		return 0, nil
 	}
-	if core.dueSince == 0 && core.isDue() {
-		core.dueSince = now
+	if c.dueSince == 0 && c.isDue() {
+		c.dueSince = now
 	}
-	again, err := core.addTold(now)
+	again, err := c.addTold(now)
 	if err != nil {
 		return 0, err
 	}
-	if err := core.settle(); err != nil {
+	if err := c.settle(); err != nil {
 		return 0, err
 	}
-	if passed := core.elapsed(nil, now); len(core.turn.steps) > 0 {
-		if err := core.add(passed); err != nil {
+	if passed := c.elapsed(nil, now); len(c.turn.steps) > 0 {
+		if err := c.add(passed); err != nil {
 			return 0, err
 		}
 	}
-	if core.round == nil {
-		core.roundSince = 0
-	} else if core.roundSince == 0 {
-		core.roundSince = now
+	if c.round == nil {
+		c.roundSince = 0
+	} else if c.roundSince == 0 {
+		c.roundSince = now
 	}
 	return again, nil
 }
 
 // addTold adds the steps for what sites told. Where nobody waits for them, that is later.
-func (core *Core) addTold(now time.Duration) (time.Duration, error) {
-	steps, left := []script.Step{}, core.turn.most(mostTold)
-	for _, site := range core.sites.all {
+func (c *Core) addTold(now time.Duration) (time.Duration, error) {
+	steps, left := []script.Step{}, c.turn.most(mostTold)
+	for _, site := range c.sites.all {
 		places := site.known()
 		if site.gone {
-			places = core.updates
+			places = c.updates
 		}
 		if count := places - site.applied; count > 0 && left > 0 {
 			if count > left {
 				count = left
 			}
 			left -= count
-			steps = append(steps, script.Step{Kind: script.Tell, Name: site.name, Count: count})
+			steps = append(steps, script.Step{Kind: script.Tell, Site: site.name, Count: count})
 		}
 	}
 	if len(steps) == 0 {
 		return 0, nil
 	}
-	somebodyWaits := len(core.turn.steps) > 0 || core.maySettle() || core.isDue()
-	if later := core.sealed + Later - now; later > 0 && !somebodyWaits {
+	somebodyWaits := len(c.turn.steps) > 0 || c.maySettle() || c.isDue()
+	if later := c.sealed + Later - now; later > 0 && !somebodyWaits {
 		return later, nil
 	}
-	if core.turn.bytes >= turnBytes {
+	if c.turn.bytes >= turnBytes {
 		return 0, nil
 	}
-	return 0, core.add(steps)
+	return 0, c.add(steps)
 }
 
 // maySettle is whether the head waits for no site, as far as is known.
-func (core *Core) maySettle() bool {
-	if core.acknowledged == core.updates {
+func (c *Core) maySettle() bool {
+	if c.acknowledged == c.updates {
 		return false
 	}
-	for _, name := range core.round {
-		if site := core.sites.of(name); site != nil && !site.gone && site.known() <= core.acknowledged {
+	for _, name := range c.round {
+		if site := c.sites.of(name); site != nil && !site.gone && site.known() <= c.acknowledged {
 			return false
 		}
 	}
@@ -236,44 +244,44 @@ func (core *Core) maySettle() bool {
 }
 
 // settle asks for acknowledgements until the head waits.
-func (core *Core) settle() error {
+func (c *Core) settle() error {
 	step := script.Step{Kind: script.Settle, Count: 1}
 	count := int64(0)
-	for core.turn.bytes < turnBytes && core.turn.most(1) > 0 && core.headIsFree() {
-		if err := core.addSettle(&step); err != nil {
+	for c.turn.bytes < turnBytes && c.turn.most(1) > 0 && c.headIsFree() {
+		if err := c.addSettle(&step); err != nil {
 			return err
 		}
 		count++
 	}
 	if count > 0 {
 		step.Count = count
-		core.turn.steps = append(core.turn.steps, step)
-		core.turn.bytes += sizeOf(&step)
+		c.turn.steps = append(c.turn.steps, step)
+		c.turn.bytes += sizeOf(&step)
 	}
 	return nil
 }
 
 // addSettle runs one step, which is not in the open turn yet.
-func (core *Core) addSettle(step *script.Step) error {
-	core.running = core.entries + 1
-	decided := len(core.decided)
-	if err := core.run([]script.Step{*step}); err != nil {
+func (c *Core) addSettle(step *script.Step) error {
+	c.running = c.entries + 1
+	decided := len(c.decided)
+	if err := c.run([]script.Step{*step}); err != nil {
 		return err
 	}
-	core.turn.room.Take(step)
-	for at := decided; at < len(core.decided); at++ {
-		core.turn.bytes += sizeOf(&core.decided[at])
+	c.turn.room.Take(step)
+	for at := decided; at < len(c.decided); at++ {
+		c.turn.bytes += sizeOf(&c.decided[at])
 	}
 	return nil
 }
 
 // headIsFree is whether an acknowledgement may be asked for: the head waits for no site, as it stands in the script.
-func (core *Core) headIsFree() bool {
-	if core.acknowledged == core.updates {
+func (c *Core) headIsFree() bool {
+	if c.acknowledged == c.updates {
 		return false
 	}
-	for _, name := range core.round {
-		if site := core.sites.of(name); site != nil && site.applied <= core.acknowledged {
+	for _, name := range c.round {
+		if site := c.sites.of(name); site != nil && site.applied <= c.acknowledged {
 			return false
 		}
 	}
@@ -281,46 +289,47 @@ func (core *Core) headIsFree() bool {
 }
 
 // Seal closes the open turn, and gives it as an entry. Where there is nothing to write it is nil.
-func (core *Core) Seal(now time.Duration) (*Turn, error) {
-	if core.store == nil {
+func (c *Core) Seal(now time.Duration) (*Turn, error) {
+	if c.store == nil {
 		return nil, nil
 	}
-	turn := &Turn{Number: core.entries + 1, Absent: core.turn.absent, Last: core.epoch, Since: core.first}
-	steps, epoch := core.turn.steps, core.entryEpoch()
-	if len(steps) == 0 && core.isOver(now) {
+	turn := &Turn{Number: c.entries + 1, Absent: c.turn.absent, Last: c.epoch, Since: c.first}
+	steps, epoch := c.turn.steps, c.entryEpoch()
+	if len(steps) == 0 && c.isOver(now) {
 		var err error
-		if steps, epoch, err = core.closing(turn); err != nil {
+		steps, epoch, err = c.closing(turn)
+		if err != nil {
 			return nil, err
 		}
 	}
 	if len(steps) == 0 {
 		return nil, nil
 	}
-	turn.Answers = core.decided
-	turn.entry = &script.Entry{Epoch: epoch, Ordup: core.entryVersion(), Writer: core.config.Writer, Steps: append(steps, turn.Answers...)}
+	turn.Answers = c.decided
+	turn.entry = &script.Entry{Epoch: epoch, Ordup: c.entryVersion(), Writer: c.config.Writer, Steps: append(steps, turn.Answers...)}
 	if err := turn.seal(); err != nil {
-		core.failure = err
+		c.failure = err
 		return nil, err
 	}
-	core.entries, core.sealed, core.turn, core.decided = turn.Number, now, openTurn{room: core.config.room}, nil
+	c.entries, c.sealed, c.turn, c.decided = turn.Number, now, openTurn{room: c.config.room}, nil
 	return turn, nil
 }
 
 // seal has the text of the entry. One that this program does not read, or that is too large for the engine, is never written.
-func (turn *Turn) seal() error {
-	turn.Text = turn.entry.Text()
-	if len(turn.Text) > script.MostEntryBytes {
-		return &BrokenError{turn.Number, fmt.Sprintf("it is not written, since it has %d bytes", len(turn.Text))}
+func (tr *Turn) seal() error {
+	tr.Text = tr.entry.Text()
+	if len(tr.Text) > script.MostEntryBytes {
+		return &BrokenError{tr.Number, fmt.Sprintf("it is not written, since it has %d bytes", len(tr.Text))}
 	}
-	if err := script.Check(turn.Text); err != nil {
-		return &BrokenError{turn.Number, fmt.Sprintf("it is not written, since nobody reads it: %v", err)}
+	if err := script.Check(tr.Text); err != nil {
+		return &BrokenError{tr.Number, fmt.Sprintf("it is not written, since nobody reads it: %v", err)}
 	}
 	return nil
 }
 
 // Written says that the entry of this number, and so all before it, is in the script.
-func (core *Core) Written(number int64) {
-	if number > core.written {
-		core.written = number
+func (c *Core) Written(number int64) {
+	if number > c.written {
+		c.written = number
 	}
 }

@@ -3,7 +3,7 @@ package epoch
 import (
 	"testing"
 
-	"ordup-node/internal/script"
+	"ordup.dev/node/internal/script"
 )
 
 var otherWish = script.Settings{Every: 7}

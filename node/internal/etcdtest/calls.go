@@ -14,7 +14,7 @@ import (
 	"google.golang.org/grpc/metadata"
 	"google.golang.org/grpc/status"
 
-	"ordup-node/internal/engine"
+	"ordup.dev/node/internal/engine"
 )
 
 // A Call is a message of a process to a member: the method, as `/etcdserverpb.KV/Range`, and what is asked.
@@ -48,88 +48,89 @@ type Calls struct {
 }
 
 // Calls gives calls that all pass. They end with the test.
-func (members *Members) Calls() *Calls {
-	members.t.Helper()
-	member, err := grpc.Dial(strings.TrimPrefix(members.Clients[0], "http://"), grpc.WithInsecure(),
+func (m *Members) Calls() *Calls {
+	m.t.Helper()
+	member, err := grpc.Dial(strings.TrimPrefix(m.Clients[0], "http://"), grpc.WithInsecure(),
 		grpc.WithDefaultCallOptions(grpc.ForceCodec(raw{})))
 	if err != nil {
-		members.t.Fatal(err)
+		m.t.Fatal(err)
 	}
 	listener, err := net.Listen("tcp", "127.0.0.1:0")
 	if err != nil {
-		members.t.Fatal(err)
+		m.t.Fatal(err)
 	}
 	calls := &Calls{member: member, address: "http://" + listener.Addr().String(), judge: func(Call) Fate { return Passes }}
+	//lint:ignore SA1019 A codec that is registered would be that of the whole process.
 	server := grpc.NewServer(grpc.CustomCodec(raw{}), grpc.UnknownServiceHandler(calls.carry))
 	go server.Serve(listener)
-	members.t.Cleanup(func() { server.Stop(); member.Close() })
+	m.t.Cleanup(func() { server.Stop(); member.Close() })
 	return calls
 }
 
 // Engine gives an engine that asks by the calls, which is closed at the end of the test.
-func (calls *Calls) Engine(t *testing.T) *engine.Engine {
-	opened := engine.Open(engine.Config{Members: []string{calls.address}})
+func (c *Calls) Engine(t *testing.T) *engine.Engine {
+	opened := engine.Open(engine.Config{Members: []string{c.address}})
 	t.Cleanup(opened.Close)
 	return opened
 }
 
 // Judge has a function say what becomes of each call from now on. It is also asked for each answer, with nothing asked, and that comes to
 // the process if it passes.
-func (calls *Calls) Judge(judge func(Call) Fate) {
-	calls.lock.Lock()
-	defer calls.lock.Unlock()
-	calls.judge = judge
+func (c *Calls) Judge(judge func(Call) Fate) {
+	c.lock.Lock()
+	defer c.lock.Unlock()
+	c.judge = judge
 }
 
 // Waiting is how many calls lie on the way.
-func (calls *Calls) Waiting() int {
-	calls.lock.Lock()
-	defer calls.lock.Unlock()
-	return len(calls.waiting)
+func (c *Calls) Waiting() int {
+	c.lock.Lock()
+	defer c.lock.Unlock()
+	return len(c.waiting)
 }
 
 // Arrive has the calls that lie on the way come to the member. It returns once they are done.
-func (calls *Calls) Arrive() {
-	calls.lock.Lock()
-	defer calls.lock.Unlock()
-	for _, arrive := range calls.waiting {
+func (c *Calls) Arrive() {
+	c.lock.Lock()
+	defer c.lock.Unlock()
+	for _, arrive := range c.waiting {
 		arrive()
 	}
-	calls.waiting = nil
+	c.waiting = nil
 }
 
 // fate is what becomes of a call. One that waits is kept.
-func (calls *Calls) fate(call Call, arrive func()) Fate {
-	calls.lock.Lock()
-	judge := calls.judge
-	calls.lock.Unlock()
+func (c *Calls) fate(call Call, arrive func()) Fate {
+	c.lock.Lock()
+	judge := c.judge
+	c.lock.Unlock()
 	fate := judge(call)
 	if fate == Waits && arrive != nil {
-		calls.lock.Lock()
-		defer calls.lock.Unlock()
-		calls.waiting = append(calls.waiting, arrive)
+		c.lock.Lock()
+		defer c.lock.Unlock()
+		c.waiting = append(c.waiting, arrive)
 	}
 	return fate
 }
 
 // carry carries one stream of calls, which has one call where the method has one answer.
-func (calls *Calls) carry(_ interface{}, near grpc.ServerStream) error {
+func (c *Calls) carry(_ any, near grpc.ServerStream) error {
 	method, _ := grpc.MethodFromServerStream(near)
 	asked, _ := metadata.FromIncomingContext(near.Context())
 	ctx, cancel := context.WithCancel(metadata.NewOutgoingContext(near.Context(), asked))
 	defer cancel()
-	far, err := calls.stream(ctx, method)
+	far, err := c.stream(ctx, method)
 	if err != nil {
 		return err
 	}
 	failed := make(chan error, 1)
 	go func() {
-		if err := calls.ask(method, near, far); err != nil {
+		if err := c.ask(method, near, far); err != nil {
 			failed <- err
 			cancel()
 		}
 	}()
-	err = calls.answer(method, near, far)
+	err = c.answer(method, near, far)
 	select {
 	case err = <-failed:
 	default:
@@ -137,19 +138,19 @@ func (calls *Calls) carry(_ interface{}, near grpc.ServerStream) error {
 	return err
 }
 
-func (calls *Calls) stream(ctx context.Context, method string) (grpc.ClientStream, error) {
-	return calls.member.NewStream(ctx, &grpc.StreamDesc{StreamName: method, ServerStreams: true, ClientStreams: true}, method)
+func (c *Calls) stream(ctx context.Context, method string) (grpc.ClientStream, error) {
+	return c.member.NewStream(ctx, &grpc.StreamDesc{StreamName: method, ServerStreams: true, ClientStreams: true}, method)
 }
 
 // ask carries what a process asks. An error fails the stream.
-func (calls *Calls) ask(method string, near grpc.ServerStream, far grpc.ClientStream) error {
+func (c *Calls) ask(method string, near grpc.ServerStream, far grpc.ClientStream) error {
 	for {
 		var asked []byte
 		if near.RecvMsg(&asked) != nil {
 			far.CloseSend()
 			return nil
 		}
-		switch calls.fate(Call{method, asked}, func() { calls.arrive(method, asked) }) {
+		switch c.fate(Call{method, asked}, func() { c.arrive(method, asked) }) {
 		case Fails:
 			return status.Error(codes.Unavailable, "the test fails this call")
 		case Waits:
@@ -163,16 +164,16 @@ func (calls *Calls) ask(method string, near grpc.ServerStream, far grpc.ClientSt
 }
 
 // arrive asks the member, long after the process did.
-func (calls *Calls) arrive(method string, asked []byte) {
+func (c *Calls) arrive(method string, asked []byte) {
 	var answer []byte
-	if far, err := calls.stream(context.Background(), method); err == nil && far.SendMsg(&asked) == nil {
+	if far, err := c.stream(context.Background(), method); err == nil && far.SendMsg(&asked) == nil {
 		far.CloseSend()
 		far.RecvMsg(&answer)
 	}
 }
 
 // answer carries what the member answers, to the end of the stream.
-func (calls *Calls) answer(method string, near grpc.ServerStream, far grpc.ClientStream) error {
+func (c *Calls) answer(method string, near grpc.ServerStream, far grpc.ClientStream) error {
 	for {
 		var answer []byte
 		err := far.RecvMsg(&answer)
@@ -182,7 +183,7 @@ func (calls *Calls) answer(method string, near grpc.ServerStream, far grpc.Clien
 		if err != nil {
 			return err
 		}
-		if calls.fate(Call{Method: method}, nil) != Passes {
+		if c.fate(Call{Method: method}, nil) != Passes {
 			continue
 		}
 		if err = near.SendMsg(&answer); err != nil {
@@ -194,9 +195,9 @@ func (calls *Calls) answer(method string, near grpc.ServerStream, far grpc.Clien
 // raw has messages as they travel.
 type raw struct{}
 
-func (raw) Marshal(message interface{}) ([]byte, error) { return *message.(*[]byte), nil }
+func (raw) Marshal(message any) ([]byte, error) { return *message.(*[]byte), nil }
 
-func (raw) Unmarshal(text []byte, message interface{}) error {
+func (raw) Unmarshal(text []byte, message any) error {
 	*message.(*[]byte) = append([]byte{}, text...)
 	return nil
 }

@@ -13,7 +13,7 @@ import (
 	"testing"
 	"time"
 
-	"ordup-node/internal/engine"
+	"ordup.dev/node/internal/engine"
 )
 
 // Members are the members of an engine.
@@ -101,50 +101,50 @@ func init() {
 }
 
 // Begin starts a member, with what it has on its disk.
-func (members *Members) Begin(at int) {
-	members.t.Helper()
-	command := exec.Command("etcd", "--name", fmt.Sprintf("m%d", at), "--data-dir", filepath.Join(members.folder, fmt.Sprint(at)),
-		"--listen-client-urls", members.Clients[at], "--advertise-client-urls", members.Clients[at],
-		"--listen-peer-urls", members.peers[at], "--initial-advertise-peer-urls", members.peers[at],
-		"--initial-cluster", members.cluster, "--log-level", "fatal")
-	command.Args = append(command.Args, members.options...)
+func (m *Members) Begin(at int) {
+	m.t.Helper()
+	command := exec.Command("etcd", "--name", fmt.Sprintf("m%d", at), "--data-dir", filepath.Join(m.folder, fmt.Sprint(at)),
+		"--listen-client-urls", m.Clients[at], "--advertise-client-urls", m.Clients[at],
+		"--listen-peer-urls", m.peers[at], "--initial-advertise-peer-urls", m.peers[at],
+		"--initial-cluster", m.cluster, "--log-level", "fatal")
+	command.Args = append(command.Args, m.options...)
 	command.SysProcAttr = &syscall.SysProcAttr{Pdeathsig: syscall.SIGKILL}
 	if err := command.Start(); err != nil {
-		members.t.Fatal(err)
+		m.t.Fatal(err)
 	}
-	members.commands[at] = command
+	m.commands[at] = command
 }
 
 // Kill ends a member at once.
-func (members *Members) Kill(at int) {
-	if command := members.commands[at]; command != nil {
+func (m *Members) Kill(at int) {
+	if command := m.commands[at]; command != nil {
 		command.Process.Kill()
 		command.Wait()
-		members.commands[at] = nil
+		m.commands[at] = nil
 	}
 }
 
 // Signal sends a signal to a member.
-func (members *Members) Signal(at int, signal syscall.Signal) {
-	members.commands[at].Process.Signal(signal)
+func (m *Members) Signal(at int, signal syscall.Signal) {
+	m.commands[at].Process.Signal(signal)
 }
 
 // Engine gives an engine for all members, which is closed at the end of the test.
-func (members *Members) Engine() *engine.Engine {
-	opened := engine.Open(members.Config)
-	members.t.Cleanup(opened.Close)
+func (m *Members) Engine() *engine.Engine {
+	opened := engine.Open(m.Config)
+	m.t.Cleanup(opened.Close)
 	return opened
 }
 
 // await waits until the engine answers.
-func (members *Members) await() {
-	members.t.Helper()
-	opened := members.Engine()
+func (m *Members) await() {
+	m.t.Helper()
+	opened := m.Engine()
 	for tries := 0; tries < 100; tries++ {
-		if _, _, err := opened.Epoch(members.context()); err == nil {
+		if _, _, err := opened.Epoch(m.context()); err == nil {
 			return
 		}
 		time.Sleep(100 * time.Millisecond)
 	}
-	members.t.Fatal("etcd does not start")
+	m.t.Fatal("etcd does not start")
 }

@@ -33,8 +33,8 @@ type ending struct {
 	status Status
 }
 
-func (err *ending) Unwrap() error      { return err.error }
-func (err *ending) ExitStatus() Status { return err.status }
+func (e *ending) Unwrap() error      { return e.error }
+func (e *ending) ExitStatus() Status { return e.status }
 
 // With is an error that ends the process with a status.
 func With(status Status, err error) error { return &ending{err, status} }

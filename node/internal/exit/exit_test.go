@@ -31,23 +31,25 @@ func TestUntilTheProcessIsAskedToEnd(t *testing.T) {
 		sent            syscall.Signal
 		isIgnored, ends bool
 	}{{syscall.SIGTERM, false, true}, {syscall.SIGINT, false, true}, {syscall.SIGHUP, false, true}, {syscall.SIGHUP, true, false}} {
-		signal.Notify(heard, row.sent) // Whoever runs the tests may ignore it.
-		if row.isIgnored {
-			signal.Ignore(row.sent)
-		}
-		ctx, cancel := Until()
-		if err := syscall.Kill(os.Getpid(), row.sent); err != nil {
-			t.Fatal(err)
-		}
-		ends := false
-		select {
-		case <-ctx.Done():
-			ends = true
-		case <-time.After(time.Second):
-		}
-		if cancel(); ends != row.ends {
-			t.Error(row, ends)
-		}
+		t.Run(fmt.Sprint(row), func(t *testing.T) {
+			signal.Notify(heard, row.sent) // Whoever runs the tests may ignore it.
+			if row.isIgnored {
+				signal.Ignore(row.sent)
+			}
+			ctx, cancel := Until()
+			if err := syscall.Kill(os.Getpid(), row.sent); err != nil {
+				t.Fatal(err)
+			}
+			ends := false
+			select {
+			case <-ctx.Done():
+				ends = true
+			case <-time.After(time.Second):
+			}
+			if cancel(); ends != row.ends {
+				t.Error(row, ends)
+			}
+		})
 	}
 }
 

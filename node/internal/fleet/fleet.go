@@ -13,15 +13,19 @@ import (
 	"sync"
 	"time"
 
-	"ordup-node/internal/clock"
-	"ordup-node/internal/engine"
-	"ordup-node/internal/epoch"
-	"ordup-node/internal/logs"
-	"ordup-node/internal/site"
+	"ordup.dev/node/internal/clock"
+	"ordup.dev/node/internal/engine"
+	"ordup.dev/node/internal/epoch"
+	"ordup.dev/node/internal/logs"
 )
 
 // lookAfter is after how long it is looked again for keys of the fleet.
 const lookAfter = time.Second
+
+// A Teller takes the place of the fleet to the primary that writes.
+type Teller interface {
+	Tell(ctx context.Context, place epoch.Place) error
+}
 
 // An Engine has the keys of the processes that serve.
 type Engine interface {
@@ -31,8 +35,10 @@ type Engine interface {
 // A Fleet takes the places of its members, and tells the least one.
 type Fleet struct {
 	name   string
-	teller site.Teller
+	teller Teller
 	names  []string
+
+	// What stands below lock is under it.
 	lock   sync.Mutex
 	places map[string]epoch.Place
 	told   map[string]time.Duration
@@ -58,18 +64,18 @@ type Status struct {
 }
 
 // Status tells what there is.
-func (fleet *Fleet) Status() Status {
-	fleet.lock.Lock()
-	defer fleet.lock.Unlock()
-	status, now := Status{Looked: fleet.looked, Unlisted: fleet.unlisted}, clock.Now()
-	for _, name := range fleet.names {
-		status.Members = append(status.Members, MemberStatus{fleet.places[name], now - fleet.told[name]})
+func (f *Fleet) Status() Status {
+	f.lock.Lock()
+	defer f.lock.Unlock()
+	status, now := Status{Looked: f.looked, Unlisted: f.unlisted}, clock.Now()
+	for _, name := range f.names {
+		status.Members = append(status.Members, MemberStatus{f.places[name], now - f.told[name]})
 	}
 	return status
 }
 
 // New gives a fleet of these members, which tells by the teller once Look found no other ones.
-func New(name string, members []string, teller site.Teller) *Fleet {
+func New(name string, members []string, teller Teller) *Fleet {
 	fleet := &Fleet{name: name, teller: teller, places: map[string]epoch.Place{}, told: map[string]time.Duration{}, names: members}
 	for _, member := range members {
 		fleet.places[member] = epoch.Place{Site: name, Member: member}
@@ -78,16 +84,16 @@ func New(name string, members []string, teller site.Teller) *Fleet {
 }
 
 // Run looks at the engine again and again, until the context ends.
-func (fleet *Fleet) Run(ctx context.Context, of Engine, log *logs.Log) error {
+func (f *Fleet) Run(ctx context.Context, of Engine, log *logs.Log) error {
 	for ctx.Err() == nil {
-		switch err := fleet.Look(ctx, of); {
+		switch err := f.Look(ctx, of); {
 		case err == nil || ctx.Err() != nil:
 		case engine.IsAway(err):
 			log.Warn("engine-away", "why", err)
 		default:
 			return err
 		}
-		if unlisted := fleet.Status().Unlisted; len(unlisted) > 0 {
+		if unlisted := f.Status().Unlisted; len(unlisted) > 0 {
 			log.Warn("fleet-tells-nothing", "why", "there are keys of sites that are not its members", "keys", strings.Join(unlisted, ","))
 		}
 		clock.Pause(ctx, lookAfter)
@@ -97,66 +103,66 @@ func (fleet *Fleet) Run(ctx context.Context, of Engine, log *logs.Log) error {
 
 // Look looks which keys of the fleet the engine has. After an error what was found before holds: a process gets to serve only once the
 // fleet has taken a place of it.
-func (fleet *Fleet) Look(ctx context.Context, of Engine) error {
-	holds, err := of.Holds(ctx, fleet.name)
+func (f *Fleet) Look(ctx context.Context, of Engine) error {
+	holds, err := of.Holds(ctx, f.name)
 	if err != nil {
-		return err
+		return fmt.Errorf("look for the keys of the fleet %s: %w", f.name, err)
 	}
 	isListed, unlisted := map[string]bool{}, []string{}
-	for _, name := range fleet.names {
-		isListed[engine.SiteKey(fleet.name, name)] = true
+	for _, name := range f.names {
+		isListed[engine.SiteKey(f.name, name)] = true
 	}
 	for _, hold := range holds {
 		if !isListed[hold.Key] {
 			unlisted = append(unlisted, hold.Key)
 		}
 	}
-	fleet.lock.Lock()
-	defer fleet.lock.Unlock()
-	fleet.looked, fleet.unlisted = true, unlisted
+	f.lock.Lock()
+	defer f.lock.Unlock()
+	f.looked, f.unlisted = true, unlisted
 	return nil
 }
 
 // Tell takes the place of a member, and tells the least of all, once each has told one and nobody else serves. A place before one that the
 // member told is passed over.
-func (fleet *Fleet) Tell(ctx context.Context, place epoch.Place) error {
-	least, isThere, err := fleet.take(place)
+func (f *Fleet) Tell(ctx context.Context, place epoch.Place) error {
+	least, isThere, err := f.take(place)
 	if err != nil || !isThere {
 		return err
 	}
 	told := least
-	told.Member = fleet.name
-	err = fleet.teller.Tell(ctx, told)
+	told.Member = f.name
+	err = f.teller.Tell(ctx, told)
 	var cannotBe *epoch.CannotBeError
 	if least != place && (errors.As(err, &cannotBe) || errors.Is(err, epoch.ErrOtherScript)) {
-		fleet.forget(least)
+		f.forget(least)
 		return fmt.Errorf("the place of %s is refused: %v", least.Member, err) // It ends who tells it again, and not this site.
 	}
 	return err
 }
 
 // forget drops the last place of a member.
-func (fleet *Fleet) forget(place epoch.Place) {
-	fleet.lock.Lock()
-	defer fleet.lock.Unlock()
-	if fleet.places[place.Member] == place {
-		fleet.places[place.Member] = epoch.Place{Site: fleet.name, Member: place.Member}
+func (f *Fleet) forget(place epoch.Place) {
+	f.lock.Lock()
+	defer f.lock.Unlock()
+	if f.places[place.Member] == place {
+		f.places[place.Member] = epoch.Place{Site: f.name, Member: place.Member}
 	}
 }
 
-func (fleet *Fleet) take(place epoch.Place) (least epoch.Place, isThere bool, err error) {
-	fleet.lock.Lock()
-	defer fleet.lock.Unlock()
-	before, isMember := fleet.places[place.Member]
-	if !isMember || place.Site != fleet.name {
-		return least, false, fmt.Errorf("%w: the sites of the fleet %s are %s", epoch.ErrNoSite, fleet.name, strings.Join(fleet.names, ", "))
+func (f *Fleet) take(place epoch.Place) (least epoch.Place, isThere bool, err error) {
+	f.lock.Lock()
+	defer f.lock.Unlock()
+	before, isMember := f.places[place.Member]
+	if !isMember || place.Site != f.name {
+		return least, false, fmt.Errorf("%w: the sites of the fleet %s are %s", epoch.ErrNoSite, f.name, strings.Join(f.names, ", "))
 	}
-	fleet.told[place.Member] = clock.Now()
+	f.told[place.Member] = clock.Now()
 	if isBefore(before, place) {
-		fleet.places[place.Member] = place
+		f.places[place.Member] = place
 	}
-	least, isThere = fleet.places[place.Member], fleet.looked && len(fleet.unlisted) == 0
-	for _, other := range fleet.places {
+	least, isThere = f.places[place.Member], f.looked && len(f.unlisted) == 0
+	for _, other := range f.places {
 		isThere = isThere && other.Epoch > 0
 		if isBefore(other, least) {
 			least = other

@@ -7,9 +7,9 @@ import (
 	"strings"
 	"testing"
 
-	"ordup-node/internal/engine"
-	"ordup-node/internal/epoch"
-	"ordup-node/internal/exit"
+	"ordup.dev/node/internal/engine"
+	"ordup.dev/node/internal/epoch"
+	"ordup.dev/node/internal/exit"
 )
 
 // A teller keeps what it is told, and answers with its error.
@@ -18,9 +18,9 @@ type teller struct {
 	err  error
 }
 
-func (teller *teller) Tell(_ context.Context, place epoch.Place) error {
-	teller.told = append(teller.told, fmt.Sprint(place.Site, place.Member, place.Epoch, place.Applied, place.Entry))
-	return teller.err
+func (tl *teller) Tell(_ context.Context, place epoch.Place) error {
+	tl.told = append(tl.told, fmt.Sprint(place.Site, place.Member, place.Epoch, place.Applied, place.Entry))
+	return tl.err
 }
 
 // Keys are those of the fleet far in an engine, or an error.
@@ -29,11 +29,11 @@ type keys struct {
 	err   error
 }
 
-func (keys *keys) Holds(context.Context, string) (holds []engine.Hold, err error) {
-	for _, name := range keys.names {
+func (k *keys) Holds(context.Context, string) (holds []engine.Hold, err error) {
+	for _, name := range k.names {
 		holds = append(holds, engine.Hold{Key: name, IsLeased: true})
 	}
-	return holds, keys.err
+	return holds, k.err
 }
 
 func start(up *teller, engine Engine) (*Fleet, func(member string, epochs, applied, entry int64) error) {
@@ -45,6 +45,7 @@ func start(up *teller, engine Engine) (*Fleet, func(member string, epochs, appli
 }
 
 func TestAFleetTellsTheLeastPlace(t *testing.T) {
+	t.Parallel()
 	up := &teller{}
 	_, tell := start(up, &keys{})
 	for _, err := range []error{tell("east", 1, 5, 7), tell("west", 1, 3, 5), tell("west", 1, 2, 4), tell("west", 1, 9, 9),
@@ -66,6 +67,7 @@ func TestAFleetTellsTheLeastPlace(t *testing.T) {
 
 // A fleet tells nothing before it saw which keys of it there are, and while one of them is of no member.
 func TestAFleetTellsNothingWhileOthersServe(t *testing.T) {
+	t.Parallel()
 	up, seen := &teller{}, &keys{err: errors.New("the engine is away")}
 	fleet, tell := start(up, seen)
 	tells := func(wants bool, why string) {
@@ -82,7 +84,7 @@ func TestAFleetTellsNothingWhileOthersServe(t *testing.T) {
 	}
 	look := func(err error, names ...string) {
 		seen.names, seen.err = names, err
-		if got := fleet.Look(context.Background(), seen); got != err {
+		if got := fleet.Look(context.Background(), seen); !errors.Is(got, err) {
 			t.Error(got)
 		}
 	}
@@ -101,6 +103,7 @@ func TestAFleetTellsNothingWhileOthersServe(t *testing.T) {
 
 // A place that is refused for good ends the site that told it, and not the one by whose place the fleet told.
 func TestAPlaceOfAnotherMemberIsRefused(t *testing.T) {
+	t.Parallel()
 	up := &teller{}
 	_, tell := start(up, &keys{})
 	tell("west", 1, 3, 5)

@@ -10,11 +10,11 @@ import (
 	"sort"
 	"strings"
 
-	"ordup"
+	"ordup.dev/ordup/answer"
 
-	"ordup-node/internal/epoch"
-	"ordup-node/internal/script"
-	"ordup-node/internal/store"
+	"ordup.dev/node/internal/epoch"
+	"ordup.dev/node/internal/script"
+	"ordup.dev/node/internal/store"
 )
 
 // An Epoch says what an epoch had that was found right.
@@ -27,71 +27,70 @@ type Epoch struct {
 }
 
 // String is a line.
-func (checked Epoch) String() string {
-	text := fmt.Sprintf("epoch %d entries %d-%d requests %d updates %d clients %d", checked.Number, checked.First, checked.Last,
-		checked.Requests, checked.Updates, checked.Clients)
+func (e Epoch) String() string {
+	text := fmt.Sprintf("epoch %d entries %d-%d requests %d updates %d clients %d", e.Number, e.First, e.Last,
+		e.Requests, e.Updates, e.Clients)
 	names := []string{}
-	for name := range checked.Rounds {
+	for name := range e.Rounds {
 		names = append(names, name)
 	}
 	sort.Strings(names)
 	for _, name := range names {
-		text += fmt.Sprintf(" %s yes %d", name, checked.Rounds[name])
+		text += fmt.Sprintf(" %s yes %d", name, e.Rounds[name])
 	}
 	return text
 }
 
 // An Audit checks entries one after another. It keeps one epoch, and the records of the one before.
 type Audit struct {
+	config Config
 	core   *epoch.Core
-	store  *ordup.Store
-	tell   func(Epoch)
+	// The store of the core.
+	store  store.Store
 	before map[string]string
 	// The last entry, and the last one of the epoch that is not carried over to the next one.
 	last, lastOf int64
 }
 
 // New gives an audit that begins with the entry of this number, and tells each epoch that was found right.
-func New(versions []string, first int64, tell func(Epoch)) *Audit {
-	audit := &Audit{tell: tell, last: first - 1}
-	audit.core = epoch.New(epoch.Config{Open: audit.open, Writer: "fsck", Versions: versions}, first)
+func New(config Config, first int64) *Audit {
+	audit := &Audit{config: config, last: first - 1}
+	audit.core = epoch.New(epoch.Config{Open: audit.open, Writer: "fsck", Versions: config.Versions}, first)
 	return audit
 }
 
 // open gives the core a store, which the audit asks too.
-func (audit *Audit) open() (store.Store, error) {
-	opened, err := ordup.Open()
-	if err != nil {
-		return nil, err
-	}
-	audit.store = opened
-	return opened, nil
+func (a *Audit) open() (store.Store, error) {
+	opened, err := a.config.Open()
+	a.store = opened
+	return opened, err
 }
 
 // Close gives back what the audit has.
-func (audit *Audit) Close() { audit.core.Close() }
+func (a *Audit) Close() { a.core.Close() }
 
 // Next is the number of the entry that comes next.
-func (audit *Audit) Next() int64 { return audit.last + 1 }
+func (a *Audit) Next() int64 { return a.last + 1 }
 
 // Core is what the entries came to.
-func (audit *Audit) Core() *epoch.Core { return audit.core }
+func (a *Audit) Core() *epoch.Core { return a.core }
 
 // Take checks an entry.
-func (audit *Audit) Take(number int64, entry *script.Entry) error {
-	if audit.store != nil && entry.Begins() {
-		if err := audit.follows(number, entry); err != nil {
+func (a *Audit) Take(number int64, entry *script.Entry) error {
+	if a.store != nil && entry.Begins() {
+		if err := a.follows(number, entry); err != nil {
 			return err
 		}
-		if err := audit.endEpoch(isSame(audit.core, entry)); err != nil {
+		if err := a.endEpoch(isSame(a.core, entry)); err != nil {
 			return err
 		}
 	}
-	if err := audit.core.Replay(number, entry); err != nil {
+	if err := a.core.Replay(number, entry); err != nil {
 		return err
 	}
-	if audit.last = number; entry.Epoch == audit.core.Epoch() {
-		audit.lastOf = number
+	a.last = number
+	if entry.Epoch == a.core.Epoch() {
+		a.lastOf = number
 	}
 	return nil
 }
@@ -102,8 +101,8 @@ func isSame(core *epoch.Core, entry *script.Entry) bool {
 }
 
 // follows looks whether an epoch begins with what the one before ended with.
-func (audit *Audit) follows(number int64, entry *script.Entry) error {
-	text, err := audit.store.NextDeclarations()
+func (a *Audit) follows(number int64, entry *script.Entry) error {
+	text, err := a.store.NextDeclarations()
 	if err != nil {
 		return &epoch.BrokenError{Number: number, Why: fmt.Sprintf("the epoch before it has not ended: %v", err)}
 	}
@@ -118,70 +117,70 @@ func (audit *Audit) follows(number int64, entry *script.Entry) error {
 		if step.Kind != script.Declare {
 			continue
 		}
-		begins = append(begins, step.Text)
-		words := strings.Fields(step.Text)
-		if len(words) == 3 && words[0] == "object" && values[words[1]] != "" && values[words[1]] != step.Text {
+		begins = append(begins, step.Words)
+		words := strings.Fields(step.Words)
+		if len(words) == 3 && words[0] == "object" && values[words[1]] != "" && values[words[1]] != step.Words {
 			return &epoch.BrokenError{Number: number,
-				Why: fmt.Sprintf("it begins with `%s`, and the epoch before ended with `%s`", step.Text, values[words[1]])}
+				Why: fmt.Sprintf("it begins with `%s`, and the epoch before ended with `%s`", step.Words, values[words[1]])}
 		}
 	}
-	if isSame(audit.core, entry) && strings.Join(begins, "\n") != strings.Join(ends, "\n") {
+	if isSame(a.core, entry) && strings.Join(begins, "\n") != strings.Join(ends, "\n") {
 		return &epoch.BrokenError{Number: number, Why: "it has other declarations than the epoch before ended with, and no operator gave them"}
 	}
 	return nil
 }
 
 // endEpoch checks the records of an epoch. Those of an epoch are kept for the next one, if they go on there.
-func (audit *Audit) endEpoch(goesOn bool) error {
-	status := audit.core.Status(0)
-	checked := Epoch{Number: status.Epoch, First: audit.core.First(), Last: audit.lastOf, Requests: status.Requests, Updates: status.Updates,
+func (a *Audit) endEpoch(goesOn bool) error {
+	status := a.core.Status(0)
+	checked := Epoch{Number: status.Epoch, First: a.core.First(), Last: a.lastOf, Requests: status.Requests, Updates: status.Updates,
 		Clients: status.Clients, Rounds: map[string]uint64{}}
 	records := map[string]string{}
 	for _, site := range status.Sites {
-		record, err := audit.store.Record(site.Name)
+		record, err := a.store.Record(site.Name)
 		if err != nil {
-			return err
+			return fmt.Errorf("the record of %s in the epoch %d: %w", site.Name, status.Epoch, err)
 		}
-		rounds, err := audit.check(status.Epoch, site.Name, record)
+		rounds, err := a.check(status.Epoch, site.Name, record)
 		if err != nil {
 			return err
 		}
 		checked.Rounds[site.Name], records[site.Name] = rounds, record
 	}
-	audit.before = nil
+	a.before = nil
 	if goesOn {
-		audit.before = records
+		a.before = records
 	}
-	audit.tell(checked)
+	a.config.Tell(checked)
 	return nil
 }
 
 // check has a record checked, alone and behind that of the epoch before.
-func (audit *Audit) check(number int64, site, record string) (uint64, error) {
-	verdict, err := ordup.Check([]byte(record))
+func (a *Audit) check(number int64, site, record string) (uint64, error) {
+	verdict, err := a.config.Checker.Check([]byte(record))
 	if err != nil {
-		return 0, err
+		return 0, fmt.Errorf("check the record of %s in the epoch %d: %w", site, number, err)
 	}
-	if verdict.Kind != ordup.Yes {
+	if verdict.Kind != answer.Yes {
 		return 0, &RecordError{number, site, fmt.Sprintf("%s %d %s", verdict.Kind, verdict.Row, verdict.Reason)}
 	}
-	before, isThere := audit.before[site]
+	before, isThere := a.before[site]
 	if !isThere {
 		return verdict.Rounds, nil
 	}
-	series, err := ordup.CheckSeries([]byte(before + record))
+	series, err := a.config.Checker.CheckSeries([]byte(before + record))
 	if err != nil {
-		return 0, err
+		return 0, fmt.Errorf("check the records of %s up to the epoch %d: %w", site, number, err)
 	}
-	if series.Kind != ordup.Yes {
+	if series.Kind != answer.Yes {
 		return 0, &RecordError{number, site, fmt.Sprintf("with the one before: %s %d %d %s", series.Kind, series.Record, series.Row, series.Reason)}
 	}
 	return verdict.Rounds, nil
 }
 
 // HasEnded is whether the last epoch is over: its end was due, all is acknowledged, and it waits for no site.
-func (audit *Audit) HasEnded() bool {
-	status := audit.core.Status(0)
+func (a *Audit) HasEnded() bool {
+	status := a.core.Status(0)
 	hasEnded := status.Due && status.Acknowledged == status.Updates
 	for _, site := range status.Sites {
 		hasEnded = hasEnded && !site.JoinWaits
@@ -190,9 +189,9 @@ func (audit *Audit) HasEnded() bool {
 }
 
 // End checks the last epoch up to its last entry.
-func (audit *Audit) End() error {
-	if audit.store == nil || audit.core.Epoch() == 0 {
+func (a *Audit) End() error {
+	if a.store == nil || a.core.Epoch() == 0 {
 		return nil
 	}
-	return audit.endEpoch(false)
+	return a.endEpoch(false)
 }

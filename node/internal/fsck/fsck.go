@@ -9,11 +9,12 @@ import (
 	"os"
 	"path/filepath"
 
-	"ordup-node/internal/archive"
-	"ordup-node/internal/engine"
-	"ordup-node/internal/epoch"
-	"ordup-node/internal/exit"
-	"ordup-node/internal/script"
+	"ordup.dev/node/internal/archive"
+	"ordup.dev/node/internal/engine"
+	"ordup.dev/node/internal/epoch"
+	"ordup.dev/node/internal/exit"
+	"ordup.dev/node/internal/script"
+	"ordup.dev/node/internal/store"
 )
 
 // A RecordError says that the record of a site is not `yes`.
@@ -22,8 +23,8 @@ type RecordError struct {
 	Site, Why string
 }
 
-func (err *RecordError) Error() string {
-	return fmt.Sprintf("the record of %s in the epoch %d: %s", err.Site, err.Epoch, err.Why)
+func (e *RecordError) Error() string {
+	return fmt.Sprintf("the record of %s in the epoch %d: %s", e.Site, e.Epoch, e.Why)
 }
 
 // ExitStatus is that of a process which meets it.
@@ -32,7 +33,7 @@ func (*RecordError) ExitStatus() exit.Status { return exit.Gap }
 // A LostError says that archives lack something, or differ.
 type LostError struct{ Why string }
 
-func (err *LostError) Error() string { return err.Why }
+func (e *LostError) Error() string { return e.Why }
 
 // ExitStatus is that of a process which meets it.
 func (*LostError) ExitStatus() exit.Status { return exit.Gap }
@@ -45,6 +46,9 @@ type Config struct {
 	// Engine has the script that is not archived yet, or is nil.
 	Engine   *engine.Engine
 	Versions []string
+	// Open gives the stores that run the script again, and Checker checks their records.
+	Open    store.Open
+	Checker store.Checker
 	// Tell is told of each epoch that was found right.
 	Tell func(Epoch)
 }
@@ -78,35 +82,35 @@ func Run(ctx context.Context, config Config) (archives, entries int64, err error
 }
 
 // take has an entry checked. The first one begins the audit.
-func (reader *reader) take(ctx context.Context, number int64, entry *script.Entry) error {
+func (r *reader) take(ctx context.Context, number int64, entry *script.Entry) error {
 	if ctx.Err() != nil {
 		return ctx.Err()
 	}
-	if reader.audit == nil {
-		reader.audit = New(reader.Versions, number, reader.Tell)
+	if r.audit == nil {
+		r.audit = New(r.Config, number)
 	}
-	reader.entries++
-	return reader.audit.Take(number, entry)
+	r.entries++
+	return r.audit.Take(number, entry)
 }
 
 // readFolders reads the archives of all epochs, one after another.
-func (reader *reader) readFolders(ctx context.Context) error {
-	number := reader.From
+func (r *reader) readFolders(ctx context.Context) error {
+	number := r.From
 	for ; ; number++ {
-		name, err := fileOf(reader.Folders, number)
+		name, err := fileOf(r.Folders, number)
 		if err != nil {
 			return err
 		}
 		if name == "" {
 			break
 		}
-		take := func(at int64, entry *script.Entry) error { return reader.take(ctx, at, entry) }
+		take := func(at int64, entry *script.Entry) error { return r.take(ctx, at, entry) }
 		if err = readFile(name, number, take); err != nil {
 			return fmt.Errorf("%s: %w", name, err)
 		}
-		reader.archives++
+		r.archives++
 	}
-	if later := laterThan(reader.Folders, number); later != "" {
+	if later := laterThan(r.Folders, number); later != "" {
 		return &LostError{fmt.Sprintf("no folder has the archive of the epoch %d, and %s is there", number, later)}
 	}
 	return nil
@@ -179,38 +183,39 @@ func readFile(name string, number int64, take func(int64, *script.Entry) error) 
 }
 
 // readEngine reads what the engine has after the archives, and looks whether the epoch that it names is that of the script.
-func (reader *reader) readEngine(ctx context.Context) error {
-	next, err := reader.Engine.First(ctx)
+func (r *reader) readEngine(ctx context.Context) error {
+	next, err := r.Engine.First(ctx)
 	if err != nil {
-		return err
+		return fmt.Errorf("read the first entry: %w", err)
 	}
-	if reader.audit != nil {
-		if next > reader.audit.Next() {
-			return fmt.Errorf("the archives end with the epoch %d, and behind them %w", reader.audit.Core().Epoch(),
-				&epoch.GapError{Number: reader.audit.Next(), Instead: next})
+	if r.audit != nil {
+		if next > r.audit.Next() {
+			return fmt.Errorf("the archives end with the epoch %d, and behind them %w", r.audit.Core().Epoch(),
+				&epoch.GapError{Number: r.audit.Next(), Instead: next})
 		}
-		next = reader.audit.Next()
+		next = r.audit.Next()
 	}
-	named, first, err := reader.Engine.Epoch(ctx)
+	named, first, err := r.Engine.Epoch(ctx)
 	if err != nil {
+		return fmt.Errorf("read the last epoch: %w", err)
+	}
+	takeAll := func(raws []engine.Raw) error { return r.takeAll(ctx, raws) }
+	_, err = r.Engine.ReadAll(ctx, next, takeAll)
+	if err != nil || r.audit == nil {
 		return err
 	}
-	takeAll := func(raws []engine.Raw) error { return reader.takeAll(ctx, raws) }
-	if _, err = reader.Engine.ReadAll(ctx, next, takeAll); err != nil || reader.audit == nil {
-		return err
-	}
-	if core := reader.audit.Core(); core.Epoch() < named || core.Epoch() == named && core.First() != first {
+	if core := r.audit.Core(); core.Epoch() < named || core.Epoch() == named && core.First() != first {
 		return &LostError{fmt.Sprintf("the engine names the epoch %d from the entry %d on, and the script has %d from %d on", named, first,
 			core.Epoch(), core.First())}
 	}
 	return nil
 }
 
-func (reader *reader) takeAll(ctx context.Context, raws []engine.Raw) error {
+func (r *reader) takeAll(ctx context.Context, raws []engine.Raw) error {
 	for _, raw := range raws {
 		entry, err := epoch.Parse(raw.Number, raw.Text)
 		if err == nil {
-			err = reader.take(ctx, raw.Number, entry)
+			err = r.take(ctx, raw.Number, entry)
 		}
 		if err != nil {
 			return err

@@ -8,14 +8,21 @@ import (
 	"strings"
 	"testing"
 
-	"ordup-node/internal/archive"
-	"ordup-node/internal/engine"
-	"ordup-node/internal/epoch"
-	"ordup-node/internal/etcdtest"
-	"ordup-node/internal/exit"
-	"ordup-node/internal/fsck"
-	"ordup-node/internal/library"
-	"ordup-node/internal/script"
+	"ordup.dev/node/internal/archive"
+	"ordup.dev/node/internal/engine"
+	"ordup.dev/node/internal/epoch"
+	"ordup.dev/node/internal/etcdtest"
+	"ordup.dev/node/internal/exit"
+	"ordup.dev/node/internal/fsck"
+	"ordup.dev/node/internal/modelstore"
+	"ordup.dev/node/internal/script"
+	"ordup.dev/node/internal/store"
+)
+
+// openStore and checker are those of the tests. With the tag library they are those of the program.
+var (
+	openStore store.Open    = modelstore.Open
+	checker   store.Checker = modelstore.Checker{}
 )
 
 var declarations = []string{"object tea 1000", "object till 0", "site north 1", "site south 1", "limit north count 2", "start"}
@@ -30,7 +37,7 @@ func scriptOf(t *testing.T, epochs int64) []*script.Entry {
 func redeclared(t *testing.T, epochs int64, second []string) []*script.Entry {
 	t.Helper()
 	wishes := map[int64][]string{1: second}
-	config := epoch.Config{Open: library.Open, Writer: "p1", Versions: []string{"1"}}
+	config := epoch.Config{Open: openStore, Writer: "p1", Versions: []string{"1"}}
 	settings := script.Settings{Every: 1000, Remembers: 2, Origin: epoch.DigestOf(declarations), Ordup: "1"}
 	turn, err := epoch.FirstTurn(config, settings, declarations)
 	core, entries := epoch.New(config, 1), []*script.Entry{}
@@ -57,10 +64,12 @@ func redeclared(t *testing.T, epochs int64, second []string) []*script.Entry {
 			for _, site := range status.Sites {
 				core.Tell(epoch.Place{Site: site.Name, Member: site.Name, Epoch: core.Epoch(), Applied: status.Updates, Entry: status.Entries}, 0)
 			}
-			if _, err = core.Work(1e9 * 100); err != nil {
+			_, err = core.Work(1e9 * 100)
+			if err != nil {
 				break
 			}
-			if turn, err = core.Seal(1e9 * 100); err != nil || turn == nil {
+			turn, err = core.Seal(1e9 * 100)
+			if err != nil || turn == nil {
 				break
 			}
 			keep(turn)
@@ -97,7 +106,7 @@ func write(t *testing.T, entries []*script.Entry, change func(name, text string)
 
 func run(folders []string, opened *engine.Engine) (string, error) {
 	text := ""
-	_, _, err := fsck.Run(context.Background(), fsck.Config{Folders: folders, From: 1, Engine: opened, Versions: []string{"1"},
+	_, _, err := fsck.Run(context.Background(), fsck.Config{Folders: folders, From: 1, Engine: opened, Versions: []string{"1"}, Open: openStore, Checker: checker,
 		Tell: func(checked fsck.Epoch) { text += checked.String() + "\n" }})
 	return text, err
 }
@@ -168,10 +177,12 @@ func TestWhatIsWrongIsFound(t *testing.T) {
 		{func(string, string) string { return "# nothing\n" }, ""},
 		{func(_, text string) string { return text[:len(text)/2] }, ""},
 	} {
-		text, err := run([]string{write(t, entries, row.change)}, nil)
-		if err == nil || !strings.Contains(err.Error(), row.says) || exit.Of(err) != exit.Gap {
-			t.Errorf("%q: %v, status %d, after %s", row.says, err, exit.Of(err), text)
-		}
+		t.Run(row.says, func(t *testing.T) {
+			text, err := run([]string{write(t, entries, row.change)}, nil)
+			if err == nil || !strings.Contains(err.Error(), row.says) || exit.Of(err) != exit.Gap {
+				t.Errorf("%q: %v, status %d, after %s", row.says, err, exit.Of(err), text)
+			}
+		})
 	}
 	other := write(t, entries, second("writer p1", "writer p2"))
 	if _, err := run([]string{write(t, entries, asItIs), other}, nil); err == nil || !strings.Contains(err.Error(), "differ") {
@@ -230,10 +241,12 @@ func TestTheEngineGoesOnFromTheArchives(t *testing.T) {
 		named string
 		right bool
 	}{{fmt.Sprintf("4 %d", last+1), false}, {fmt.Sprintf("5 %d", last), false}, {fmt.Sprintf("4 %d", last), true}} {
-		members.Put("epoch", row.named)
-		if _, err := run(nil, opened); (err == nil) != row.right || err != nil && !strings.Contains(err.Error(), "the engine names the epoch") {
-			t.Error(row, err)
-		}
+		t.Run(row.named, func(t *testing.T) {
+			members.Put("epoch", row.named)
+			if _, err := run(nil, opened); (err == nil) != row.right || err != nil && !strings.Contains(err.Error(), "the engine names the epoch") {
+				t.Error(row, err)
+			}
+		})
 	}
 	// Without the archive of the third epoch, and with its entries gone.
 	if removed, err := opened.RemoveEpoch(ctx, 3, nil, engine.Archive{From: 1, Before: last}); err != nil || !removed {

@@ -1,17 +1,11 @@
-// Package library gives the stores of libordup, in this process.
+// Package library gives the stores of libordup, in this process, and its checker.
+//
+// It is linked with the tag library. Without that a program is built all the same, and says that it has no store.
 package library
 
-import (
-	"ordup"
+import "ordup.dev/node/internal/store"
 
-	"ordup-node/internal/store"
-)
+// Checker is that of the library.
+var Checker store.Checker = checker{}
 
-// Open gives a store before its first line.
-func Open() (store.Store, error) {
-	opened, err := ordup.Open()
-	if err != nil {
-		return nil, err // Else it would be a store that is nil, which is not nil.
-	}
-	return opened, nil
-}
+type checker struct{}

@@ -10,7 +10,9 @@ import (
 // under way since the longest time: it is new, keeps still, or sends its request slowly. So they keep nobody out.
 type crowd struct {
 	net.Listener
-	most  int
+	most int
+
+	// What stands below lock is under it, also of each member, but for its body.
 	lock  sync.Mutex
 	count int
 	// The connections on which nothing is under way, the one that is so since the longest time first.
@@ -21,11 +23,13 @@ type crowd struct {
 type member struct {
 	net.Conn
 	crowd *crowd
-	// Its place among those that are still, if it is. Busy counts the requests that are under way.
+
+	// Under the lock of the crowd. Its place among those that are still, if it is. Busy counts the requests that are under way.
 	at     *list.Element
 	busy   int
 	closed bool
-	// What became of the body of the request that is under way, in its handler.
+
+	// What became of the body of the request that is under way, of its handler alone.
 	body bodyState
 }
 
@@ -40,22 +44,23 @@ const (
 )
 
 // Accept gives the next connection.
-func (crowd *crowd) Accept() (net.Conn, error) {
-	accepted, err := crowd.Listener.Accept()
+func (c *crowd) Accept() (net.Conn, error) {
+	accepted, err := c.Listener.Accept()
 	if err != nil {
 		return nil, err
 	}
-	came := &member{Conn: accepted, crowd: crowd}
-	crowd.lock.Lock()
-	crowd.count++
+	came := &member{Conn: accepted, crowd: c}
+	c.lock.Lock()
+	c.count++
 	var gone *member
-	if crowd.count > crowd.most {
-		if gone = came; crowd.still.Len() > 0 {
-			gone = crowd.still.Front().Value.(*member)
+	if c.count > c.most {
+		gone = came
+		if c.still.Len() > 0 {
+			gone = c.still.Front().Value.(*member)
 		}
 	}
-	came.at = crowd.still.PushBack(came)
-	crowd.lock.Unlock()
+	came.at = c.still.PushBack(came)
+	c.lock.Unlock()
 	if gone != nil {
 		gone.Close()
 	}
@@ -63,52 +68,53 @@ func (crowd *crowd) Accept() (net.Conn, error) {
 }
 
 // Close ends the connection.
-func (member *member) Close() error {
-	crowd := member.crowd
+func (m *member) Close() error {
+	crowd := m.crowd
 	crowd.lock.Lock()
-	if !member.closed {
-		member.closed = true
+	if !m.closed {
+		m.closed = true
 		crowd.count--
-		member.leaveStill()
+		m.leaveStill()
 	}
 	crowd.lock.Unlock()
-	return member.Conn.Close()
+	return m.Conn.Close()
 }
 
 // CloseWrite says that no more comes from here, and leaves the other side the time to read what came.
-func (member *member) CloseWrite() error {
-	if half, isHalf := member.Conn.(interface{ CloseWrite() error }); isHalf {
+func (m *member) CloseWrite() error {
+	if half, isHalf := m.Conn.(interface{ CloseWrite() error }); isHalf {
 		return half.CloseWrite()
 	}
 	return nil
 }
 
-func (member *member) leaveStill() {
-	if member.at != nil {
-		member.crowd.still.Remove(member.at)
-		member.at = nil
+func (m *member) leaveStill() {
+	if m.at != nil {
+		m.crowd.still.Remove(m.at)
+		m.at = nil
 	}
 }
 
 // begin says that a request is under way on the connection, and end that it is no more.
-func (member *member) begin() {
-	member.crowd.lock.Lock()
-	defer member.crowd.lock.Unlock()
-	member.busy++
-	member.leaveStill()
+func (m *member) begin() {
+	m.crowd.lock.Lock()
+	defer m.crowd.lock.Unlock()
+	m.busy++
+	m.leaveStill()
 }
 
-func (member *member) end() {
-	member.crowd.lock.Lock()
-	defer member.crowd.lock.Unlock()
-	if member.busy--; member.busy == 0 && !member.closed {
-		member.at = member.crowd.still.PushBack(member)
+func (m *member) end() {
+	m.crowd.lock.Lock()
+	defer m.crowd.lock.Unlock()
+	m.busy--
+	if m.busy == 0 && !m.closed {
+		m.at = m.crowd.still.PushBack(m)
 	}
 }
 
 // size is how many connections there are.
-func (crowd *crowd) size() int {
-	crowd.lock.Lock()
-	defer crowd.lock.Unlock()
-	return crowd.count
+func (c *crowd) size() int {
+	c.lock.Lock()
+	defer c.lock.Unlock()
+	return c.count
 }

@@ -15,7 +15,7 @@ import (
 	"net/http"
 	"time"
 
-	"ordup-node/internal/logs"
+	"ordup.dev/node/internal/logs"
 )
 
 const (
@@ -52,6 +52,7 @@ func Start(address string, secure *tls.Config, most int, handler http.Handler, e
 	if err != nil {
 		return nil, err
 	}
+	// Requests go on while the process ends, until Stop hastens them.
 	all, cancel := context.WithCancel(context.Background())
 	server := &Server{crowd: &crowd{Listener: listener, most: most}, ended: make(chan error, 1), hasten: cancel}
 	server.server = &http.Server{
@@ -78,23 +79,24 @@ func Start(address string, secure *tls.Config, most int, handler http.Handler, e
 }
 
 // Address is where the server listens.
-func (server *Server) Address() string { return server.crowd.Addr().String() }
+func (s *Server) Address() string { return s.crowd.Addr().String() }
 
 // Connections is how many connections there are.
-func (server *Server) Connections() int { return server.crowd.size() }
+func (s *Server) Connections() int { return s.crowd.size() }
 
 // Ended tells why the server ended by itself.
-func (server *Server) Ended() <-chan error { return server.ended }
+func (s *Server) Ended() <-chan error { return s.ended }
 
 // Stop takes no more requests, and waits so long for the answers of those that are under way. After half of that their contexts end, so
 // that they answer that there is no answer yet.
-func (server *Server) Stop(most time.Duration) {
+func (s *Server) Stop(most time.Duration) {
+	// It is called once the process ends, so no context of a caller is left.
 	ctx, cancel := context.WithTimeout(context.Background(), most)
 	defer cancel()
-	defer server.hasten()
-	defer time.AfterFunc(most/2, server.hasten).Stop()
-	if server.server.Shutdown(ctx) != nil {
-		server.server.Close()
+	defer s.hasten()
+	defer time.AfterFunc(most/2, s.hasten).Stop()
+	if s.server.Shutdown(ctx) != nil {
+		s.server.Close()
 	}
 }
 
@@ -169,9 +171,9 @@ func Begin(asked *http.Request) (end func()) {
 // faults tells of a handler that failed. What else a server has to say is of connections from outside, which are no events.
 type faults struct{ log *logs.Log }
 
-func (faults faults) Write(text []byte) (int, error) {
+func (f faults) Write(text []byte) (int, error) {
 	if line, _, _ := bytes.Cut(text, []byte("\n")); bytes.Contains(line, []byte("panic")) {
-		faults.log.Warn("handler-failed", "why", string(line))
+		f.log.Warn("handler-failed", "why", string(line))
 	}
 	return len(text), nil
 }

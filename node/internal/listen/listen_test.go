@@ -15,8 +15,8 @@ import (
 	"testing"
 	"time"
 
-	"ordup-node/internal/listen"
-	"ordup-node/internal/logs"
+	"ordup.dev/node/internal/listen"
+	"ordup.dev/node/internal/logs"
 )
 
 // start serves a handler that waits at /wait, and answers what it read.

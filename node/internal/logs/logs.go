@@ -27,16 +27,16 @@ type Log struct {
 func New(to io.Writer) *Log { return &Log{to: to, now: time.Now, said: map[string]time.Time{}} }
 
 // Info tells what happens in good order. The words are names, each with a value behind it.
-func (log *Log) Info(what string, words ...interface{}) { log.write("info", what, words, false) }
+func (l *Log) Info(what string, words ...any) { l.write("info", what, words, false) }
 
 // Warn tells what an operator should look at. It tells the same thing seldom.
-func (log *Log) Warn(what string, words ...interface{}) { log.write("warn", what, words, true) }
+func (l *Log) Warn(what string, words ...any) { l.write("warn", what, words, true) }
 
 // Error tells why a process ends.
-func (log *Log) Error(what string, words ...interface{}) { log.write("error", what, words, false) }
+func (l *Log) Error(what string, words ...any) { l.write("error", what, words, false) }
 
-func (log *Log) write(level, what string, words []interface{}, seldom bool) {
-	if log == nil {
+func (l *Log) write(level, what string, words []any, seldom bool) {
+	if l == nil {
 		return
 	}
 	var text strings.Builder
@@ -44,26 +44,26 @@ func (log *Log) write(level, what string, words []interface{}, seldom bool) {
 	for at := 0; at+1 < len(words); at += 2 {
 		fmt.Fprintf(&text, " %v=%s", words[at], quoted(fmt.Sprint(words[at+1])))
 	}
-	log.lock.Lock()
-	defer log.lock.Unlock()
-	now := log.now()
-	if seldom && !log.isDue(text.String(), now) {
+	l.lock.Lock()
+	defer l.lock.Unlock()
+	now := l.now()
+	if seldom && !l.isDue(text.String(), now) {
 		return
 	}
-	fmt.Fprintf(log.to, "%s %s\n", now.UTC().Format("2006-01-02T15:04:05.000Z"), text.String())
+	fmt.Fprintf(l.to, "%s %s\n", now.UTC().Format("2006-01-02T15:04:05.000Z"), text.String())
 }
 
 // isDue is whether a text was not told a short time ago. Old texts are forgotten.
-func (log *Log) isDue(text string, now time.Time) bool {
-	if last, wasSaid := log.said[text]; wasSaid && now.Sub(last) < OncePer {
+func (l *Log) isDue(text string, now time.Time) bool {
+	if last, wasSaid := l.said[text]; wasSaid && now.Sub(last) < OncePer {
 		return false
 	}
-	for old, last := range log.said {
+	for old, last := range l.said {
 		if now.Sub(last) >= OncePer {
-			delete(log.said, old)
+			delete(l.said, old)
 		}
 	}
-	log.said[text] = now
+	l.said[text] = now
 	return true
 }
 

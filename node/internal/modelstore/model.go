@@ -4,13 +4,14 @@
 package modelstore
 
 import (
-	"bytes"
 	"errors"
 	"fmt"
 	"strconv"
 	"strings"
 
-	"ordup-node/internal/store"
+	"ordup.dev/ordup/answer"
+
+	"ordup.dev/node/internal/store"
 )
 
 // mostValue is the greatest value of an object, as in ordup.
@@ -26,8 +27,8 @@ type Model struct {
 	log     []string
 	acked   int
 	round   []string
-	// Answers, where it is not nil, changes the answer to a line: a store that is wrong.
-	Answers func(line, answer string) string
+	// Wrong, where it is not nil, changes the answer to a line: a store that is wrong.
+	Wrong func(line, answer string) string
 }
 
 type site struct {
@@ -43,117 +44,131 @@ func Open() (store.Store, error) {
 }
 
 // Close does nothing.
-func (model *Model) Close() error { return nil }
+func (m *Model) Close() error { return nil }
 
-// Run answers the lines of a text.
-func (model *Model) Run(lines []byte) ([]byte, error) {
-	var answers bytes.Buffer
+// Answers answers the lines of a text.
+func (m *Model) Answers(lines []byte) ([]answer.Answer, error) {
+	var answers strings.Builder
 	for _, line := range strings.Split(strings.TrimSuffix(string(lines), "\n"), "\n") {
-		if line == "" || line[0] == '#' {
+		if !answer.HasAnswer(line) {
 			continue
 		}
-		answer := model.answer(strings.Fields(line))
-		if model.Answers != nil {
-			answer = model.Answers(line, answer)
+		says := m.answer(strings.Fields(line))
+		if m.Wrong != nil {
+			says = m.Wrong(line, says)
 		}
-		answers.WriteString(answer + "\n")
+		answers.WriteString(says + "\n")
 	}
-	return answers.Bytes(), nil
+	return answer.ParseAll(answers.String(), lines)
 }
 
 // NextDeclarations gives the declarations of the successor.
-func (model *Model) NextDeclarations() (string, error) {
-	if model.acked < len(model.log) {
+func (m *Model) NextDeclarations() (string, error) {
+	if m.acked < len(m.log) {
 		return "", errors.New("an update is not acknowledged yet")
 	}
 	text := ""
-	for _, name := range model.objects {
-		text += fmt.Sprintf("object %s %d\n", name, model.values[name])
+	for _, name := range m.objects {
+		text += fmt.Sprintf("object %s %d\n", name, m.values[name])
 	}
-	for _, name := range model.sites {
-		text += fmt.Sprintf("site %s %s\n", name, model.at[name].capacity)
+	for _, name := range m.sites {
+		text += fmt.Sprintf("site %s %s\n", name, m.at[name].capacity)
 	}
-	for _, name := range model.sites {
-		if limit := model.at[name].limit; limit >= 0 {
+	for _, name := range m.sites {
+		if limit := m.at[name].limit; limit >= 0 {
 			text += fmt.Sprintf("limit %s count %d\n", name, limit)
 		}
 	}
 	return text + "start\n", nil
 }
 
-func (model *Model) answer(words []string) string {
+// Record gives no record that an auditor would read: a Checker of this package takes it.
+func (m *Model) Record(site string) (string, error) { return "record " + site + "\n", nil }
+
+// A Checker says yes to any record.
+type Checker struct{}
+
+// Check says yes.
+func (Checker) Check([]byte) (answer.Verdict, error) { return answer.Verdict{Kind: answer.Yes}, nil }
+
+// CheckSeries says yes.
+func (Checker) CheckSeries([]byte) (answer.SeriesVerdict, error) {
+	return answer.SeriesVerdict{Kind: answer.Yes}, nil
+}
+
+func (m *Model) answer(words []string) string {
 	if len(words) == 0 {
 		return "refused 1 Syntax"
 	}
 	kind := words[0]
 	isDeclaration := kind == "object" || kind == "site" || kind == "limit" || kind == "start"
 	switch {
-	case isDeclaration && model.started:
+	case isDeclaration && m.started:
 		return "refused 3 AlreadyStarted"
 	case isDeclaration:
-		return model.declare(words)
-	case !model.started:
+		return m.declare(words)
+	case !m.started:
 		return "refused 2 NotStarted"
 	case kind == "propose":
-		return model.propose(words[1:])
+		return m.propose(words[1:])
 	case kind == "settle":
-		return model.settle()
-	case len(words) == 2 && model.at[words[1]] == nil:
+		return m.settle()
+	case len(words) == 2 && m.at[words[1]] == nil:
 		return "refused 8 UnknownSite"
 	case len(words) == 2:
-		return model.move(kind, words[1], model.at[words[1]])
+		return m.move(kind, words[1], m.at[words[1]])
 	}
 	return "refused 1 Syntax"
 }
 
-func (model *Model) declare(words []string) string {
+func (m *Model) declare(words []string) string {
 	switch {
 	case words[0] == "object" && len(words) == 3:
 		value, err := strconv.ParseInt(words[2], 10, 64)
 		if err != nil {
 			return "refused 1 Syntax"
 		}
-		model.objects, model.values[words[1]] = append(model.objects, words[1]), value
+		m.objects, m.values[words[1]] = append(m.objects, words[1]), value
 	case words[0] == "site" && len(words) == 3:
-		model.sites, model.at[words[1]] = append(model.sites, words[1]), &site{capacity: words[2], limit: -1}
-	case words[0] == "limit" && len(words) == 4 && words[2] == "count" && model.at[words[1]] != nil:
-		model.at[words[1]].limit, _ = strconv.Atoi(words[3])
+		m.sites, m.at[words[1]] = append(m.sites, words[1]), &site{capacity: words[2], limit: -1}
+	case words[0] == "limit" && len(words) == 4 && words[2] == "count" && m.at[words[1]] != nil:
+		m.at[words[1]].limit, _ = strconv.Atoi(words[3])
 	case words[0] == "start" && len(words) == 1:
-		return model.start()
+		return m.start()
 	default:
 		return "refused 1 Syntax"
 	}
 	return "ok " + words[0] + " " + words[1]
 }
 
-func (model *Model) start() string {
-	if len(model.objects) == 0 || len(model.sites) == 0 {
+func (m *Model) start() string {
+	if len(m.objects) == 0 || len(m.sites) == 0 {
 		return "refused 11 Empty"
 	}
-	for _, site := range model.at {
+	for _, site := range m.at {
 		site.values = map[string]int64{}
-		for name, value := range model.values {
+		for name, value := range m.values {
 			site.values[name] = value
 		}
 	}
-	model.started = true
+	m.started = true
 	return "ok start"
 }
 
-func (model *Model) propose(changes []string) string {
+func (m *Model) propose(changes []string) string {
 	if len(changes) == 0 {
 		return "refused 11 Empty"
 	}
 	values := map[string]int64{}
-	for name, value := range model.values {
+	for name, value := range m.values {
 		values[name] = value
 	}
 	if refused := change(values, changes); refused != "" {
 		return refused
 	}
-	model.values = values
-	model.log = append(model.log, strings.Clone(strings.Join(changes, " ")))
-	return fmt.Sprintf("ok proposed %d", len(model.log))
+	m.values = values
+	m.log = append(m.log, strings.Clone(strings.Join(changes, " ")))
+	return fmt.Sprintf("ok proposed %d", len(m.log))
 }
 
 func change(values map[string]int64, changes []string) string {
@@ -180,37 +195,37 @@ func change(values map[string]int64, changes []string) string {
 	return ""
 }
 
-func (model *Model) settle() string {
-	head := model.acked + 1
-	if head > len(model.log) {
+func (m *Model) settle() string {
+	head := m.acked + 1
+	if head > len(m.log) {
 		return "refused 17 NothingToSettle"
 	}
 	kind := "waiting"
-	if model.round == nil {
+	if m.round == nil {
 		kind = "round"
-		for _, name := range model.sites {
-			if site := model.at[name]; site.limit >= 0 && head-site.reported > site.limit {
-				model.round = append(model.round, name)
+		for _, name := range m.sites {
+			if site := m.at[name]; site.limit >= 0 && head-site.reported > site.limit {
+				m.round = append(m.round, name)
 			}
 		}
 	}
 	waits := ""
-	for _, name := range model.round {
-		if model.at[name].reported < head {
+	for _, name := range m.round {
+		if m.at[name].reported < head {
 			waits += " " + name
 		}
 	}
 	if waits != "" {
 		return fmt.Sprintf("ok %s %d%s", kind, head, waits)
 	}
-	model.acked, model.round = head, nil
+	m.acked, m.round = head, nil
 	return fmt.Sprintf("ok acked %d", head)
 }
 
-func (model *Model) move(kind, name string, site *site) string {
+func (m *Model) move(kind, name string, site *site) string {
 	switch kind {
 	case "send":
-		if site.sent == len(model.log) {
+		if site.sent == len(m.log) {
 			return "refused 14 NothingToSend"
 		}
 		site.sent++
@@ -219,7 +234,7 @@ func (model *Model) move(kind, name string, site *site) string {
 		if site.applied == site.sent {
 			return "refused 16 NothingToApply"
 		}
-		change(site.values, strings.Fields(model.log[site.applied]))
+		change(site.values, strings.Fields(m.log[site.applied]))
 		site.applied++
 		return fmt.Sprintf("ok applied %s %d", name, site.applied)
 	case "report":
@@ -227,7 +242,7 @@ func (model *Model) move(kind, name string, site *site) string {
 		return fmt.Sprintf("ok reported %s %d", name, site.reported)
 	case "show":
 		text := fmt.Sprintf("ok show %s sent %d applied %d reported %d rounds 0", name, site.sent, site.applied, site.reported)
-		for _, object := range model.objects {
+		for _, object := range m.objects {
 			text += fmt.Sprintf(" %s=%d", object, site.values[object])
 		}
 		return text
@@ -236,10 +251,10 @@ func (model *Model) move(kind, name string, site *site) string {
 }
 
 // OpenWrong opens models that change their answers.
-func OpenWrong(answers func(line, answer string) string) store.Open {
+func OpenWrong(wrong func(line, answer string) string) store.Open {
 	return func() (store.Store, error) {
 		opened, err := Open()
-		opened.(*Model).Answers = answers
+		opened.(*Model).Wrong = wrong
 		return opened, err
 	}
 }

@@ -8,7 +8,7 @@ import (
 	"sync"
 	"time"
 
-	"ordup-node/internal/primary"
+	"ordup.dev/node/internal/primary"
 )
 
 // mostPoints is how many points the picture of the lag has, one each pointTime: five minutes.
@@ -23,12 +23,12 @@ type Lag struct {
 }
 
 // Run looks at the sites each second, until the context ends.
-func (lag *Lag) Run(ctx context.Context, status func() primary.Status) {
+func (l *Lag) Run(ctx context.Context, status func() primary.Status) {
 	ticker := time.NewTicker(pointTime)
 	defer ticker.Stop()
 	for {
 		now := status()
-		lag.add(&now)
+		l.add(&now)
 		select {
 		case <-ticker.C:
 		case <-ctx.Done():
@@ -37,24 +37,24 @@ func (lag *Lag) Run(ctx context.Context, status func() primary.Status) {
 	}
 }
 
-func (lag *Lag) add(status *primary.Status) {
-	lag.lock.Lock()
-	defer lag.lock.Unlock()
+func (l *Lag) add(status *primary.Status) {
+	l.lock.Lock()
+	defer l.lock.Unlock()
 	missing := map[string]int64{}
-	lag.names = nil
+	l.names = nil
 	for _, site := range status.Core.Sites {
 		missing[site.Name] = site.Missing
-		lag.names = append(lag.names, site.Name)
+		l.names = append(l.names, site.Name)
 	}
 	points := map[string][]int64{}
 	for name, now := range missing {
-		line := append(lag.points[name], now)
+		line := append(l.points[name], now)
 		if len(line) > mostPoints {
 			line = line[len(line)-mostPoints:]
 		}
 		points[name] = line
 	}
-	lag.points = points
+	l.points = points
 }
 
 // The picture: its size, and where the lines are drawn.
@@ -67,11 +67,11 @@ const (
 var colors = []string{"#0072b2", "#d55e00", "#009e73", "#cc79a7", "#e69f00", "#56b4e9", "#7a7a00", "#000000"}
 
 // Picture draws the lines as SVG.
-func (lag *Lag) Picture() template.HTML {
-	lag.lock.Lock()
-	defer lag.lock.Unlock()
+func (l *Lag) Picture() template.HTML {
+	l.lock.Lock()
+	defer l.lock.Unlock()
 	most := int64(1)
-	for _, line := range lag.points {
+	for _, line := range l.points {
 		for _, point := range line {
 			if point > most {
 				most = point
@@ -87,21 +87,21 @@ func (lag *Lag) Picture() template.HTML {
 	}
 	fmt.Fprintf(&to, `<text x="%d" y="%d">5 minutes ago</text><text x="%d" y="%d" class="left">now</text>`,
 		left, height-8, width-right, height-8)
-	for at, name := range lag.names {
+	for at, name := range l.names {
 		color, dash := colors[at%len(colors)], ""
 		if at >= len(colors) {
 			dash = ` stroke-dasharray="6 3"`
 		}
 		fmt.Fprintf(&to, `<polyline fill="none" stroke="%s" stroke-width="1.5"%s points="%s"/><text x="%d" y="%d" fill="%s">%s</text>`,
-			color, dash, lag.line(name, most), width-right+8, top+12+15*at, color, template.HTMLEscapeString(name))
+			color, dash, l.line(name, most), width-right+8, top+12+15*at, color, template.HTMLEscapeString(name))
 	}
 	to.WriteString(`</svg>`)
 	return template.HTML(to.String())
 }
 
-func (lag *Lag) line(name string, most int64) string {
+func (l *Lag) line(name string, most int64) string {
 	var to strings.Builder
-	line := lag.points[name]
+	line := l.points[name]
 	for at, point := range line {
 		x := float64(width-right) - float64(len(line)-1-at)*float64(width-left-right)/(mostPoints-1)
 		y := float64(height-below) - float64(point)*float64(height-top-below)/float64(most)

@@ -9,14 +9,14 @@ import (
 	"testing"
 	"time"
 
-	"ordup-node/internal/engine"
-	"ordup-node/internal/epoch"
-	"ordup-node/internal/exit"
-	"ordup-node/internal/fleet"
-	"ordup-node/internal/primary"
-	"ordup-node/internal/script"
-	"ordup-node/internal/site"
-	"ordup-node/internal/wire"
+	"ordup.dev/node/internal/engine"
+	"ordup.dev/node/internal/epoch"
+	"ordup.dev/node/internal/exit"
+	"ordup.dev/node/internal/fleet"
+	"ordup.dev/node/internal/primary"
+	"ordup.dev/node/internal/script"
+	"ordup.dev/node/internal/site"
+	"ordup.dev/node/internal/wire"
 )
 
 // machines is the page for operators.
@@ -103,6 +103,7 @@ func allMade(t *testing.T) map[string]map[string]bool {
 }
 
 func TestThePageHasEachNumberWithItsType(t *testing.T) {
+	t.Parallel()
 	told, all := toldOf(t, machines(t)), allMade(t)
 	for kind, made := range all {
 		for number := range made {
@@ -127,6 +128,7 @@ func TestThePageHasEachNumberWithItsType(t *testing.T) {
 }
 
 func TestThePageNamesNoOtherNumber(t *testing.T) {
+	t.Parallel()
 	names := map[string]bool{}
 	for _, made := range allMade(t) {
 		for number := range made {
@@ -159,7 +161,8 @@ func grouped(number int64) string {
 
 // Each number of this list is one of the code.
 func TestThePageHasTheStatusesAndSizesOfTheCode(t *testing.T) {
-	page, status := machines(t), func(err error) int { return wire.ErrorOf(err, "", 0).Status }
+	t.Parallel()
+	page, status := machines(t), func(name wire.Name) int { return wire.NewError(name, "").Status }
 	seconds := func(time time.Duration) string { return words[int(time.Seconds())] }
 	for _, says := range []string{
 		fmt.Sprintf("The engine drops it %s seconds after it was renewed; the process relies on it for %s,", seconds(engine.LeaseTime), seconds(engine.Relied)),
@@ -172,9 +175,9 @@ func TestThePageHasTheStatusesAndSizesOfTheCode(t *testing.T) {
 		fmt.Sprintf("after %s seconds no readers.", seconds(engine.Relied)),
 		fmt.Sprintf("One of a site that is taken out goes after %s seconds", seconds(engine.LeaseTime)),
 		fmt.Sprintf("A request has at most %s bytes,", grouped(script.MostChangesBytes)),
-		fmt.Sprintf("\nthe engine is full | requests have the status %d.", status(primary.ErrFull)),
-		fmt.Sprintf("client's last one | status %d, or %d with that number |", status(primary.ErrMalformed), status(&primary.PassedError{})),
-		fmt.Sprintf("Beyond `--requests` a call has the status %d,", status(primary.ErrBusy)),
+		fmt.Sprintf("\nthe engine is full | requests have the status %d.", status(wire.Full)),
+		fmt.Sprintf("client's last one | status %d, or %d with that number |", status(wire.Malformed), status(wire.Passed)),
+		fmt.Sprintf("Beyond `--requests` a call has the status %d,", status(wire.Busy)),
 		fmt.Sprintf("comes to other answers | who meets it ends with status %d,", exit.Gap),
 		fmt.Sprintf("\na site is not in the script, or not in its fleet | it ends with status %d |", exit.NotInScript),
 		fmt.Sprintf("\na site tells a place that cannot be, or it follows another script than the primary | it ends with status %d |", exit.NoPlace),

@@ -26,9 +26,9 @@ func counter(name, help string, value int64) sample {
 	return sample{name: name, help: help, isCounter: true, value: float64(value)}
 }
 
-func (each sample) of(name, value string) sample {
-	each.label = [2]string{name, value}
-	return each
+func (s sample) of(name, value string) sample {
+	s.label = [2]string{name, value}
+	return s
 }
 
 func truth(is bool) float64 {
@@ -45,8 +45,8 @@ type collector func() []sample
 func (collector) Describe(chan<- *prometheus.Desc) {}
 
 // Collect gives the samples.
-func (collect collector) Collect(to chan<- prometheus.Metric) {
-	for _, each := range collect() {
+func (c collector) Collect(to chan<- prometheus.Metric) {
+	for _, each := range c() {
 		names, values := []string{}, []string{}
 		if each.label[0] != "" {
 			names, values = append(names, each.label[0]), append(values, each.label[1])
@@ -78,6 +78,6 @@ func newNumbers(kind, version string, connections func() int, samples collector)
 }
 
 // Handler answers at /metrics.
-func (numbers *Numbers) Handler() http.Handler {
-	return promhttp.HandlerFor(numbers.registry, promhttp.HandlerOpts{})
+func (n *Numbers) Handler() http.Handler {
+	return promhttp.HandlerFor(n.registry, promhttp.HandlerOpts{})
 }

@@ -10,10 +10,10 @@ import (
 
 	"github.com/prometheus/client_golang/prometheus/testutil"
 
-	"ordup-node/internal/epoch"
-	"ordup-node/internal/fleet"
-	"ordup-node/internal/primary"
-	"ordup-node/internal/site"
+	"ordup.dev/node/internal/epoch"
+	"ordup.dev/node/internal/fleet"
+	"ordup.dev/node/internal/primary"
+	"ordup.dev/node/internal/site"
 )
 
 func zero() int { return 7 }
@@ -45,6 +45,7 @@ var status = primary.Status{Writes: true, Lease: time.Second, Writer: "http://p1
 			Limits: []string{"count 3", "object tea 20"}}, {Name: "south", Applied: 8, Leaves: true}}}}
 
 func TestNumbersOfAPrimary(t *testing.T) {
+	t.Parallel()
 	numbers := OfPrimary("1.2.3", zero, func() primary.Status { return status })
 	numbers.Waited(3 * time.Millisecond)
 	has(t, get(t, numbers.Handler()), `ordup_build_info{version="1.2.3"} 1`, "ordup_primary_writes 1", "ordup_epoch 3", "ordup_log_updates 8",
@@ -56,6 +57,7 @@ func TestNumbersOfAPrimary(t *testing.T) {
 }
 
 func TestNumbersHaveTheFormOfPrometheus(t *testing.T) {
+	t.Parallel()
 	members := func() fleet.Status {
 		return fleet.Status{Members: []fleet.MemberStatus{{Place: epoch.Place{Member: "east", Epoch: 2}}}}
 	}
@@ -69,6 +71,7 @@ func TestNumbersHaveTheFormOfPrometheus(t *testing.T) {
 }
 
 func TestThePageOfAPrimary(t *testing.T) {
+	t.Parallel()
 	lag := &Lag{}
 	for at := 0; at < mostPoints+20; at++ {
 		now := status
@@ -84,11 +87,12 @@ func TestThePageOfAPrimary(t *testing.T) {
 	other := status
 	other.Lease = 0
 	has(t, get(t, PageOfPrimary("p1", lag, func() primary.Status { return other })), "the engine does not answer")
-	other.Writes, other.Writer, other.Counts.Full = false, "", 1
+	other.Writes, other.Writer, other.Counts.Full = false, "", true
 	has(t, get(t, PageOfPrimary("p1", lag, func() primary.Status { return other })), "knows of no primary that writes", "The engine is full")
 }
 
 func TestNumbersOfASiteAndAFleet(t *testing.T) {
+	t.Parallel()
 	now := site.Status{Serves: true, Entry: 9, Epoch: 2, Place: 5, Told: 4, HasTold: true, ToldSince: time.Second, Readers: 3, HasSeen: true, Since: time.Second}
 	seen := func() site.Status { return now }
 	has(t, get(t, OfSite("1", "north", zero, seen).Handler()), `ordup_site_serves{site="north"} 1`, `ordup_site_applied_updates{site="north"} 5`,

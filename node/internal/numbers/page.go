@@ -8,10 +8,10 @@ import (
 	"strings"
 	"time"
 
-	"ordup-node/internal/epoch"
-	"ordup-node/internal/fleet"
-	"ordup-node/internal/primary"
-	"ordup-node/internal/site"
+	"ordup.dev/node/internal/epoch"
+	"ordup.dev/node/internal/fleet"
+	"ordup.dev/node/internal/primary"
+	"ordup.dev/node/internal/site"
 )
 
 // page renews itself, and asks for nothing else.
@@ -128,7 +128,7 @@ func saysOf(status *primary.Status) []cell {
 		says = append(says, cell{Bad: true, Text: fmt.Sprintf("The next epoch has been due for %s, and waits for %s.", ago(core.DueSince),
 			strings.Join(join, ", "))})
 	}
-	if status.Counts.Full > 0 {
+	if status.Counts.Full {
 		says = append(says, cell{Text: "The engine is full, and takes no write.", Bad: true})
 	}
 	return says

@@ -5,7 +5,7 @@ import (
 
 	"github.com/prometheus/client_golang/prometheus"
 
-	"ordup-node/internal/primary"
+	"ordup.dev/node/internal/primary"
 )
 
 // A PrimaryNumbers is those of a primary.
@@ -27,7 +27,7 @@ func OfPrimary(version string, connections func() int, status func() primary.Sta
 }
 
 // Waited takes how long an update waited for its answer.
-func (numbers *PrimaryNumbers) Waited(wait time.Duration) { numbers.waits.Observe(wait.Seconds()) }
+func (p *PrimaryNumbers) Waited(wait time.Duration) { p.waits.Observe(wait.Seconds()) }
 
 func ofPrimary(status *primary.Status) []sample {
 	core := &status.Core
@@ -46,7 +46,7 @@ func ofPrimary(status *primary.Status) []sample {
 		gauge("join_due", "whether the next epoch is due", truth(core.Due)),
 		gauge("join_due_seconds", "since when the next epoch is due", core.DueSince.Seconds()),
 		gauge("archives_waiting", "epochs that have ended and are still in the engine", float64(status.Archives)),
-		gauge("engine_full", "whether the engine took no write for want of space", float64(status.Counts.Full)),
+		gauge("engine_full", "whether the engine took no write for want of space", truth(status.Counts.Full)),
 		counter("requests_total", "requests that this process took", status.Counts.Requests),
 		counter("answers_total", "answers that this process told", status.Counts.Answers),
 		counter("entries_written_total", "entries that this process wrote", status.Counts.Entries),

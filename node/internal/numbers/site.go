@@ -1,8 +1,8 @@
 package numbers
 
 import (
-	"ordup-node/internal/fleet"
-	"ordup-node/internal/site"
+	"ordup.dev/node/internal/fleet"
+	"ordup.dev/node/internal/site"
 )
 
 // OfSite gives the numbers of a site.

@@ -5,10 +5,10 @@ import (
 	"errors"
 	"fmt"
 	"strings"
-	"sync/atomic"
 
-	"ordup-node/internal/clock"
-	"ordup-node/internal/epoch"
+	"ordup.dev/node/internal/clock"
+	"ordup.dev/node/internal/epoch"
+	"ordup.dev/node/internal/script"
 )
 
 // Why a request has no answer. Each but the last three may be asked again under the same number, here or at another primary: it is done
@@ -27,30 +27,27 @@ var (
 // A NotWriterError says that this process does not write, and which one does, as far as it knows.
 type NotWriterError struct{ Address string }
 
-func (err *NotWriterError) Error() string {
-	if err.Address == "" {
+func (e *NotWriterError) Error() string {
+	if e.Address == "" {
 		return "this primary does not write, and knows of none that does"
 	}
-	return fmt.Sprintf("this primary does not write: %s does", err.Address)
+	return fmt.Sprintf("this primary does not write: %s does", e.Address)
 }
 
 // A PassedError says that the client asked under a later number before.
 type PassedError struct{ Last int64 }
 
-func (err *PassedError) Error() string {
-	return fmt.Sprintf("the client asked under %d before", err.Last)
+func (e *PassedError) Error() string {
+	return fmt.Sprintf("the client asked under %d before", e.Last)
 }
 
-// An Answer is what the store answered to a request: `ok acked K epoch E`, or `refused N NAME`.
-type Answer struct{ Text string }
-
-// mayTake tells why this process takes nothing now, or nil. Once it may not rely on its lease another process may write. Whoever asks has
-// the lock of the calls.
-func (primary *Primary) mayTake() error {
+// mayTakeLocked tells why this process takes nothing now, or nil. Once it may not rely on its lease another process may write. Whoever
+// calls it has the lock of the calls.
+func (p *Primary) mayTakeLocked() error {
 	switch {
-	case !primary.calls.open:
-		return &NotWriterError{primary.calls.address}
-	case !primary.lease.Relies():
+	case !p.calls.open:
+		return &NotWriterError{p.calls.address}
+	case !p.lease.Relies():
 		return &NotWriterError{}
 	}
 	return nil
@@ -58,32 +55,32 @@ func (primary *Primary) mayTake() error {
 
 // Submit asks for an update, and waits for its answer. While this process may not write it fails at once with a NotWriterError. After
 // any error but a PassedError, ErrDiffers and ErrMalformed, also that of the context, the request may be done or not: ask again.
-func (primary *Primary) Submit(ctx context.Context, request epoch.Request) (Answer, error) {
+func (p *Primary) Submit(ctx context.Context, request epoch.Request) (script.Answer, error) {
 	call := &call{request: request, done: make(chan outcome, 1)}
-	if err := primary.queue(call); err != nil {
-		return Answer{}, err
+	if err := p.queue(call); err != nil {
+		return script.Answer{}, err
 	}
 	select {
 	case done := <-call.done:
-		return Answer{done.text}, done.err
+		return done.answer, done.err
 	case <-ctx.Done():
-		primary.calls.drop(call)
-		return Answer{}, primary.noAnswer(ctx.Err(), "the update", func(site *epoch.SiteStatus) bool { return site.Waited })
+		p.calls.drop(call)
+		return script.Answer{}, p.noAnswer(ctx.Err(), "the update", func(site *epoch.SiteStatus) bool { return site.Waited })
 	}
 }
 
 // noAnswer is the error of what has none in time. It names the sites for which that waits: an update for those of the first one that has no
 // answer, as all behind it do. While the core is at work it names none.
-func (primary *Primary) noAnswer(err error, what string, isWaited func(*epoch.SiteStatus) bool) error {
-	if !primary.coreLock.TryLock() {
+func (p *Primary) noAnswer(err error, what string, isWaited func(*epoch.SiteStatus) bool) error {
+	if !p.coreLock.TryLock() {
 		return err
 	}
-	defer primary.coreLock.Unlock()
-	if primary.core == nil {
+	defer p.coreLock.Unlock()
+	if p.core == nil {
 		return err
 	}
 	waited := []string{}
-	for _, site := range primary.core.Status(clock.Now()).Sites {
+	for _, site := range p.core.Status(clock.Now()).Sites {
 		if isWaited(&site) {
 			waited = append(waited, site.Name)
 		}
@@ -94,15 +91,15 @@ func (primary *Primary) noAnswer(err error, what string, isWaited func(*epoch.Si
 	return fmt.Errorf("%s waits for %s: %w", what, strings.Join(waited, " and "), err)
 }
 
-func (primary *Primary) queue(call *call) error {
-	calls := &primary.calls
+func (p *Primary) queue(call *call) error {
+	calls := &p.calls
 	calls.lock.Lock()
 	defer calls.lock.Unlock()
-	if err := primary.mayTake(); err != nil {
+	if err := p.mayTakeLocked(); err != nil {
 		return err
 	}
 	switch {
-	case atomic.LoadInt64(&primary.counts.Full) > 0:
+	case p.counts.full.Load():
 		return ErrFull
 	case len(calls.queue) >= MostQueued || calls.waiters >= MostWaiting:
 		return ErrBusy
@@ -114,48 +111,48 @@ func (primary *Primary) queue(call *call) error {
 
 // Tell takes the place of a site, which the site has shown under its lease. After an error it may be told again, but for
 // epoch.ErrNoSite, epoch.ErrOtherScript and an epoch.CannotBeError.
-func (primary *Primary) Tell(_ context.Context, place epoch.Place) error {
-	primary.calls.lock.Lock()
-	err := primary.mayTake()
-	primary.calls.lock.Unlock()
+func (p *Primary) Tell(_ context.Context, place epoch.Place) error {
+	p.calls.lock.Lock()
+	err := p.mayTakeLocked()
+	p.calls.lock.Unlock()
 	if err != nil {
 		return err
 	}
-	err = primary.with(func(core *epoch.Core) error {
+	err = p.with(func(core *epoch.Core) error {
 		if core == nil {
 			return epoch.ErrBehind
 		}
 		if place.Epoch == core.Epoch() {
-			if err := primary.digests.check(&place); err != nil {
+			if err := p.digests.check(&place); err != nil {
 				return err
 			}
 		}
 		return core.Tell(place, clock.Now())
 	})
-	primary.calls.awaken()
+	p.calls.awaken()
 	return err
 }
 
 // Next asks for the next epoch, and waits until it has begun. It returns the epoch that came after wish.From.
-func (primary *Primary) Next(ctx context.Context, wish epoch.Wish) (int64, error) {
+func (p *Primary) Next(ctx context.Context, wish epoch.Wish) (int64, error) {
 	next := &nextCall{wish: wish, done: make(chan outcome, 1)}
-	if err := primary.queueNext(next); err != nil {
+	if err := p.queueNext(next); err != nil {
 		return 0, err
 	}
 	select {
 	case done := <-next.done:
 		return wish.From + 1, done.err
 	case <-ctx.Done():
-		primary.calls.dropNext(next)
-		return 0, primary.noAnswer(ctx.Err(), "the next epoch", func(site *epoch.SiteStatus) bool { return site.JoinWaits })
+		p.calls.dropNext(next)
+		return 0, p.noAnswer(ctx.Err(), "the next epoch", func(site *epoch.SiteStatus) bool { return site.JoinWaits })
 	}
 }
 
-func (primary *Primary) queueNext(next *nextCall) error {
-	calls := &primary.calls
+func (p *Primary) queueNext(next *nextCall) error {
+	calls := &p.calls
 	calls.lock.Lock()
 	defer calls.lock.Unlock()
-	if err := primary.mayTake(); err != nil {
+	if err := p.mayTakeLocked(); err != nil {
 		return err
 	}
 	calls.nexts = append(calls.nexts, next)

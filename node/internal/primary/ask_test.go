@@ -7,7 +7,7 @@ import (
 	"testing"
 	"time"
 
-	"ordup-node/internal/epoch"
+	"ordup.dev/node/internal/epoch"
 )
 
 // Who has no answer in time is told for which sites that waits.

@@ -11,7 +11,7 @@ import (
 	"testing"
 	"time"
 
-	"ordup-node/internal/site"
+	"ordup.dev/node/internal/site"
 )
 
 // A process of a site sleeps while another one takes its lease. As it wakes it tells readers nothing that is too old, at no moment.

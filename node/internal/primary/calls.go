@@ -4,8 +4,8 @@ import (
 	"errors"
 	"sync"
 
-	"ordup-node/internal/epoch"
-	"ordup-node/internal/script"
+	"ordup.dev/node/internal/epoch"
+	"ordup.dev/node/internal/script"
 )
 
 // MostQueued is how many requests wait to be taken at most, and MostWaiting how many of those that were taken wait for an answer.
@@ -21,8 +21,8 @@ type call struct {
 }
 
 type outcome struct {
-	text string
-	err  error
+	answer script.Answer
+	err    error
 }
 
 // A nextCall waits until a wish has come true.
@@ -39,91 +39,94 @@ type asked struct {
 
 // calls are those of other goroutines, which Run takes.
 type calls struct {
+	own  string
+	wake chan struct{}
+
+	// What stands below lock is under it.
 	lock sync.Mutex
 	// Whether this process writes, and else who does. Over is set once the process ends.
 	open, over bool
 	address    string
-	own        string
 	// What is not taken yet, who waits for a turn, and who for an epoch.
 	queue   []*call
 	waiting map[asked][]*call
 	waiters int
 	nexts   []*nextCall
 	wishes  []*nextCall
-	wake    chan struct{}
 }
 
-func (calls *calls) init(own string) {
-	calls.own, calls.waiting, calls.wake = own, map[asked][]*call{}, make(chan struct{}, 1)
+func (c *calls) init(own string) {
+	c.own, c.waiting, c.wake = own, map[asked][]*call{}, make(chan struct{}, 1)
 }
 
-func (calls *calls) isOpen() bool {
-	calls.lock.Lock()
-	defer calls.lock.Unlock()
-	return calls.open
+func (c *calls) isOpen() bool {
+	c.lock.Lock()
+	defer c.lock.Unlock()
+	return c.open
 }
 
-func (calls *calls) writer() string {
-	calls.lock.Lock()
-	defer calls.lock.Unlock()
-	return calls.address
+func (c *calls) writer() string {
+	c.lock.Lock()
+	defer c.lock.Unlock()
+	return c.address
 }
 
-func (calls *calls) sizes() (waiting, queued int) {
-	calls.lock.Lock()
-	defer calls.lock.Unlock()
-	return calls.waiters + len(calls.queue), len(calls.queue)
+func (c *calls) sizes() (waiting, queued int) {
+	c.lock.Lock()
+	defer c.lock.Unlock()
+	return c.waiters + len(c.queue), len(c.queue)
 }
 
 // awaken has Run look at what came.
-func (calls *calls) awaken() {
+func (c *calls) awaken() {
 	select {
-	case calls.wake <- struct{}{}:
+	case c.wake <- struct{}{}:
 	default:
 	}
 }
 
 // set says whether this process writes, and who does. Where it does no more, all who wait are told. The address of another process is
 // never its own, which wrote the last entry and does no more.
-func (calls *calls) set(open bool, address string) {
-	calls.lock.Lock()
-	defer calls.lock.Unlock()
-	if !open && address == calls.own {
+func (c *calls) set(open bool, address string) {
+	c.lock.Lock()
+	defer c.lock.Unlock()
+	if !open && address == c.own {
 		address = ""
 	}
-	calls.open, calls.address = open && !calls.over, address
-	if !calls.open {
-		calls.failAll(&NotWriterError{address})
+	c.open, c.address = open && !c.over, address
+	if !c.open {
+		c.failAllLocked(&NotWriterError{address})
 	}
 }
 
 // end tells all who wait, and takes no more.
-func (calls *calls) end() {
-	calls.lock.Lock()
-	defer calls.lock.Unlock()
-	calls.open, calls.over = false, true
-	calls.failAll(&NotWriterError{})
+func (c *calls) end() {
+	c.lock.Lock()
+	defer c.lock.Unlock()
+	c.open, c.over = false, true
+	c.failAllLocked(&NotWriterError{})
 }
 
-func (calls *calls) failAll(err error) {
-	for _, call := range calls.queue {
+// failAllLocked tells all who wait why they have no answer. Whoever calls it has the lock.
+func (c *calls) failAllLocked(err error) {
+	for _, call := range c.queue {
 		call.done <- outcome{err: err}
 	}
-	for _, waiters := range calls.waiting {
+	for _, waiters := range c.waiting {
 		for _, call := range waiters {
 			call.done <- outcome{err: err}
 		}
 	}
-	for _, next := range append(calls.nexts, calls.wishes...) {
+	for _, next := range append(c.nexts, c.wishes...) {
 		next.done <- outcome{err: err}
 	}
-	calls.queue, calls.waiting, calls.waiters, calls.nexts, calls.wishes = nil, map[asked][]*call{}, 0, nil, nil
+	c.queue, c.waiting, c.waiters, c.nexts, c.wishes = nil, map[asked][]*call{}, 0, nil, nil
 }
 
 // sort has each call wait for what its verdict says, or tells it. It returns how many wait to be taken, as before.
-func (calls *calls) sort(came []*call, verdicts []epoch.Verdict) int {
-	calls.lock.Lock()
-	defer calls.lock.Unlock()
+func (c *calls) sort(came []*call, verdicts []epoch.Verdict) int {
+	c.lock.Lock()
+	defer c.lock.Unlock()
 	var later []*call
 	for at, verdict := range verdicts {
 		call := came[at]
@@ -133,13 +136,13 @@ func (calls *calls) sort(came []*call, verdicts []epoch.Verdict) int {
 		switch verdict.Kind {
 		case epoch.Waits:
 			key := asked{call.request.Client, call.request.Number}
-			call.at = len(calls.waiting[key])
-			calls.waiting[key] = append(calls.waiting[key], call)
-			calls.waiters++
+			call.at = len(c.waiting[key])
+			c.waiting[key] = append(c.waiting[key], call)
+			c.waiters++
 		case epoch.NotNow:
 			later = append(later, call)
 		case epoch.Answered:
-			call.done <- outcome{text: verdict.Text}
+			call.done <- outcome{answer: verdict.Answer}
 		case epoch.Passed:
 			call.done <- outcome{err: &PassedError{verdict.Last}}
 		case epoch.Differs:
@@ -149,46 +152,46 @@ func (calls *calls) sort(came []*call, verdicts []epoch.Verdict) int {
 		}
 	}
 	if len(later) > 0 {
-		calls.queue = append(later, calls.queue...)
+		c.queue = append(later, c.queue...)
 	}
 	return len(later)
 }
 
 // tell tells answers to who waits for them.
-func (calls *calls) tell(answers []script.Step) {
-	calls.lock.Lock()
-	defer calls.lock.Unlock()
+func (c *calls) tell(answers []script.Step) {
+	c.lock.Lock()
+	defer c.lock.Unlock()
 	for at := range answers {
-		key := asked{answers[at].Name, answers[at].Number}
-		for _, call := range calls.waiting[key] {
-			call.done <- outcome{text: answers[at].Text}
-			calls.waiters--
+		key := asked{answers[at].Client, answers[at].Number}
+		for _, call := range c.waiting[key] {
+			call.done <- outcome{answer: answers[at].Answer}
+			c.waiters--
 		}
-		delete(calls.waiting, key)
+		delete(c.waiting, key)
 	}
 }
 
 // keepWish has a call wait for its epoch, or to be taken in a later turn, or tells why it is not taken.
-func (calls *calls) keepWish(next *nextCall, err error) {
-	calls.lock.Lock()
-	defer calls.lock.Unlock()
+func (c *calls) keepWish(next *nextCall, err error) {
+	c.lock.Lock()
+	defer c.lock.Unlock()
 	switch {
 	case next.isGone:
 	case err == nil:
-		calls.wishes = append(calls.wishes, next)
+		c.wishes = append(c.wishes, next)
 	case errors.Is(err, epoch.ErrNotNow):
-		calls.nexts = append(calls.nexts, next)
+		c.nexts = append(c.nexts, next)
 	default:
 		next.done <- outcome{err: err}
 	}
 }
 
 // tellWishes tells who waits for an epoch that has begun, whether it is as it was wished.
-func (calls *calls) tellWishes(core *epoch.Core) {
-	calls.lock.Lock()
-	defer calls.lock.Unlock()
-	left := calls.wishes[:0]
-	for _, next := range calls.wishes {
+func (c *calls) tellWishes(core *epoch.Core) {
+	c.lock.Lock()
+	defer c.lock.Unlock()
+	left := c.wishes[:0]
+	for _, next := range c.wishes {
 		if next.isGone {
 			continue
 		}
@@ -198,43 +201,44 @@ func (calls *calls) tellWishes(core *epoch.Core) {
 			left = append(left, next)
 		}
 	}
-	calls.wishes = left
+	c.wishes = left
 }
 
 // drop forgets a call for which nobody waits any more: at once if it was taken, and else as the queue is.
-func (calls *calls) drop(gone *call) {
-	calls.lock.Lock()
-	defer calls.lock.Unlock()
+func (c *calls) drop(gone *call) {
+	c.lock.Lock()
+	defer c.lock.Unlock()
 	gone.isGone = true
 	key := asked{gone.request.Client, gone.request.Number}
-	waiters, at := calls.waiting[key], gone.at
+	waiters, at := c.waiting[key], gone.at
 	if at >= len(waiters) || waiters[at] != gone {
 		return
 	}
 	last := len(waiters) - 1
 	waiters[at], waiters[last].at = waiters[last], at
 	waiters[last] = nil
-	if calls.waiting[key] = waiters[:last]; last == 0 {
-		delete(calls.waiting, key)
+	c.waiting[key] = waiters[:last]
+	if last == 0 {
+		delete(c.waiting, key)
 	}
-	calls.waiters--
+	c.waiters--
 }
 
 // dropNext forgets a call for an epoch for which nobody waits any more, as soon as it is looked at again.
-func (calls *calls) dropNext(gone *nextCall) {
-	calls.lock.Lock()
-	defer calls.lock.Unlock()
+func (c *calls) dropNext(gone *nextCall) {
+	c.lock.Lock()
+	defer c.lock.Unlock()
 	gone.isGone = true
 }
 
-// take empties the queue, and gives those of it for which somebody waits.
-func (calls *calls) take() []*call {
-	came := calls.queue[:0]
-	for _, call := range calls.queue {
+// takeLocked empties the queue, and gives those of it for which somebody waits. Whoever calls it has the lock.
+func (c *calls) takeLocked() []*call {
+	came := c.queue[:0]
+	for _, call := range c.queue {
 		if !call.isGone {
 			came = append(came, call)
 		}
 	}
-	calls.queue = nil
+	c.queue = nil
 	return came
 }

@@ -3,8 +3,8 @@ package primary
 import (
 	"testing"
 
-	"ordup-node/internal/epoch"
-	"ordup-node/internal/script"
+	"ordup.dev/node/internal/epoch"
+	"ordup.dev/node/internal/script"
 )
 
 func newCalls() *calls {
@@ -18,8 +18,8 @@ func ask(client string) *call {
 }
 
 // answer is that to a request of ask.
-func answer(client, text string) []script.Step {
-	return []script.Step{{Kind: script.Answer, Name: client, Number: 1, Text: text}}
+func answer(client string, decided script.Answer) []script.Step {
+	return []script.Step{{Kind: script.Answered, Client: client, Number: 1, Answer: decided}}
 }
 
 // Who gives up while the core looks at the request is forgotten too.
@@ -32,7 +32,7 @@ func TestWhoGivesUpIsForgotten(t *testing.T) {
 		calls.drop(gone)
 	}
 	count := calls.sort([]*call{taken, later}, []epoch.Verdict{{Kind: epoch.Waits}, {Kind: epoch.NotNow}})
-	if came := calls.take(); len(came) != 0 {
+	if came := calls.takeLocked(); len(came) != 0 {
 		t.Error(came)
 	}
 	if waiting, left := calls.sizes(); waiting != 0 || left != 0 || count != 0 || len(calls.waiting) != 0 {
@@ -56,10 +56,10 @@ func TestWhoIsAnsweredWaitsNoMore(t *testing.T) {
 		if waiting, _ := calls.sizes(); waiting != count-2 {
 			t.Error(first, waiting)
 		}
-		calls.tell(answer("bob", "refused 10 Overlap"))
-		calls.tell(answer("ann", "ok acked 7 epoch 1"))
+		calls.tell(answer("bob", script.Answer{Refusal: script.Refusal{Number: 9, Name: "OutOfRange"}}))
+		calls.tell(answer("ann", script.Answer{Place: 7, Epoch: 1}))
 		for at, call := range all {
-			if isGone := at == first || at == second; len(call.done) == 0 != isGone || !isGone && (<-call.done).text != "ok acked 7 epoch 1" {
+			if isGone := at == first || at == second; len(call.done) == 0 != isGone || !isGone && (<-call.done).answer.String() != "ok acked 7 epoch 1" {
 				t.Error(first, at)
 			}
 		}

@@ -8,21 +8,21 @@ import (
 	"testing"
 	"time"
 
-	"ordup-node/internal/engine"
-	"ordup-node/internal/epoch"
-	"ordup-node/internal/exit"
-	"ordup-node/internal/primary"
-	"ordup-node/internal/site"
+	"ordup.dev/node/internal/engine"
+	"ordup.dev/node/internal/epoch"
+	"ordup.dev/node/internal/exit"
+	"ordup.dev/node/internal/primary"
+	"ordup.dev/node/internal/site"
 )
 
 // siteBy starts a site over a link of its own.
-func (deployment *deployment) siteBy(name string, engine *engine.Engine) (*site.Site, *process) {
+func (d *deployment) siteBy(name string, engine *engine.Engine) (*site.Site, *process) {
 	made, err := site.New(site.Config{Engine: engine, Open: openStore, Name: name, Host: "h-" + name, Versions: []string{"1"},
-		Teller: deployment, Log: deployment.log})
+		Teller: d, Log: d.log})
 	if err != nil {
-		deployment.t.Fatal(err)
+		d.t.Fatal(err)
 	}
-	return made, deployment.run(made.Run)
+	return made, d.run(made.Run)
 }
 
 func serves(at *site.Site) bool {
@@ -89,7 +89,7 @@ func TestAWriterThatIsCutOff(t *testing.T) {
 	until(t, 9*time.Second, "p2 does not write", func() bool { return two.Status().Writes })
 	t.Logf("another one writes after %v", time.Since(cut))
 	answer, err := two.Submit(context.Background(), epoch.Request{Client: "ann", Number: 2, Changes: "add:tea:-1"})
-	is(t, []interface{}{"ok acked 2 epoch 1", nil}, []interface{}{answer.Text, err})
+	is(t, []any{"ok acked 2 epoch 1", nil}, []any{answer.String(), err})
 	link.Mend()
 	var other *primary.NotWriterError
 	select {
@@ -127,7 +127,7 @@ func TestNobodyTakesOverWithALeaseThatMayBeOver(t *testing.T) {
 	until(t, 10*time.Second, "it does not follow", func() bool { return two.Status().Core.Written == last })
 	time.Sleep(500 * time.Millisecond)
 	now, err := deployment.members.Engine().Last(context.Background(), 1)
-	is(t, []interface{}{last, nil, false}, []interface{}{now, err, two.Status().Writes})
+	is(t, []any{last, nil, false}, []any{now, err, two.Status().Writes})
 	leases.Mend()
 	until(t, 20*time.Second, "it does not take over", func() bool { return two.Status().Writes })
 }
@@ -148,7 +148,7 @@ func TestAnEntryChangesBehindACutLink(t *testing.T) {
 	link.Cut()
 	until(t, 30*time.Second, "p2 notices nothing", func() bool { return two.Status().EngineFailures > failures })
 	text, isThere, err := deployment.members.Engine().Entry(context.Background(), last)
-	is(t, []interface{}{true, nil}, []interface{}{isThere, err})
+	is(t, []any{true, nil}, []any{isThere, err})
 	deployment.members.Put(fmt.Sprintf("script/%012d", last), strings.Replace(string(text), "writer p1-", "writer p9-", 1))
 	link.Mend()
 	until(t, 20*time.Second, "p2 goes on", func() bool { return len(standby.done) > 0 })
@@ -175,7 +175,7 @@ func TestWhatIsToldToAWriterThatIsCutOff(t *testing.T) {
 		is(t, fmt.Sprintf("ok acked %d epoch 1", number), deployment.ask("ann", number, "add:tea:-1"))
 	}
 	begun, err := deployment.next(epoch.Wish{From: 1})
-	is(t, []interface{}{2, nil}, []interface{}{begun, err})
+	is(t, []any{2, nil}, []any{begun, err})
 	link.Mend()
 }
 
@@ -195,7 +195,7 @@ func TestASiteIsCutOffAsItIsTakenOut(t *testing.T) {
 	asked := time.Now()
 	begun, err := deployment.next(epoch.Wish{From: 1, Declarations: []string{"object tea 1", "site south 1", "start"}})
 	is(t, false, serves(north))
-	is(t, []interface{}{2, nil}, []interface{}{begun, err})
+	is(t, []any{2, nil}, []any{begun, err})
 	if took := time.Since(asked); took < 3*time.Second {
 		t.Errorf("the next epoch began after %v", took)
 	} else {

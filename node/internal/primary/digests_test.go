@@ -3,8 +3,8 @@ package primary
 import (
 	"testing"
 
-	"ordup-node/internal/engine"
-	"ordup-node/internal/epoch"
+	"ordup.dev/node/internal/engine"
+	"ordup.dev/node/internal/epoch"
 )
 
 // A place is of this script where it names an entry of the epoch as it is here.

@@ -1,6 +1,8 @@
 package primary
 
-import "ordup-node/internal/engine"
+import "ordup.dev/node/internal/engine"
 
 // ScriptBy has a primary that does not run yet ask for the script by an engine of its own. Its lease stays with the other one.
-func (primary *Primary) ScriptBy(engine *engine.Engine) { primary.config.Engine = engine }
+func (p *Primary) ScriptBy(engine *engine.Engine) {
+	p.config.Engine, p.follower.Engine = engine, engine
+}

@@ -8,11 +8,11 @@ import (
 	"testing"
 	"time"
 
-	"ordup-node/internal/epoch"
-	"ordup-node/internal/exit"
-	"ordup-node/internal/modelstore"
-	"ordup-node/internal/primary"
-	"ordup-node/internal/site"
+	"ordup.dev/node/internal/epoch"
+	"ordup.dev/node/internal/exit"
+	"ordup.dev/node/internal/modelstore"
+	"ordup.dev/node/internal/primary"
+	"ordup.dev/node/internal/site"
 )
 
 func TestAFullEngineTakesNoRequests(t *testing.T) {
@@ -24,7 +24,7 @@ func TestAFullEngineTakesNoRequests(t *testing.T) {
 	deployment.members.Fill()
 	answer := make(chan string, 1)
 	go func() { answer <- deployment.ask("ann", 2, "add:tea:-1") }()
-	until(t, 5*time.Second, "it does not notice", func() bool { return own.Status().Counts.Full == 1 })
+	until(t, 5*time.Second, "it does not notice", func() bool { return own.Status().Counts.Full })
 	_, err := own.Submit(context.Background(), epoch.Request{Client: "bob", Number: 1, Changes: "add:tea:-1"})
 	is(t, primary.ErrFull, err)
 	is(t, "epoch 1 place 1 tea=999999", deployment.read(south, site.Seen{}))
@@ -44,7 +44,7 @@ func TestWhoAsksAStoreThatFails(t *testing.T) {
 	defer cancel()
 	_, err := own.Submit(limited, epoch.Request{Client: "ann", Number: 1, Changes: "add:tea:-1"})
 	var other *primary.NotWriterError
-	is(t, []interface{}{true, exit.Gap}, []interface{}{errors.As(err, &other), exit.Of(<-process.done)})
+	is(t, []any{true, exit.Gap}, []any{errors.As(err, &other), exit.Of(<-process.done)})
 }
 
 // A script that is written by hand, or that lacks what a process has run, ends the processes that meet it.

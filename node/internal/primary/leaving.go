@@ -4,9 +4,9 @@ import (
 	"context"
 	"time"
 
-	"ordup-node/internal/clock"
-	"ordup-node/internal/engine"
-	"ordup-node/internal/epoch"
+	"ordup.dev/node/internal/clock"
+	"ordup.dev/node/internal/engine"
+	"ordup.dev/node/internal/epoch"
 )
 
 // A Held says by how many keys in the engine a site is held that is taken out, and how many of them have no lease.
@@ -27,35 +27,36 @@ func newLeaving(primary *Primary) *leaving {
 }
 
 // start begins a look, if there is a site to look for and none is under way.
-func (leaving *leaving) start(ctx context.Context) {
+func (l *leaving) start(ctx context.Context) {
 	var sites []string
-	leaving.with(func(core *epoch.Core) error { sites = core.Leaving(); return nil })
-	if len(sites) > 0 && !leaving.isUnder {
-		leaving.isUnder = true
-		go leaving.look(ctx, sites)
+	l.see(func(core *epoch.Core) { sites = core.Leaving() })
+	if len(sites) > 0 && !l.isUnder {
+		l.isUnder = true
+		go l.look(ctx, sites)
 	}
 }
 
 // look tells which sites have no key in the engine any more.
-func (leaving *leaving) look(ctx context.Context, sites []string) {
-	defer func() { leaving.gone <- "" }()
-	before := leaving.since
-	leaving.since = map[engine.Hold]time.Duration{}
+func (l *leaving) look(ctx context.Context, sites []string) {
+	defer func() { l.gone <- "" }()
+	before := l.since
+	l.since = map[engine.Hold]time.Duration{}
 	for _, site := range sites {
-		holds, err := leaving.config.Engine.Holds(ctx, site)
+		holds, err := l.config.Engine.Holds(ctx, site)
 		if err != nil {
-			leaving.config.Log.Warn("leaving-site-not-seen", "site", site, "why", err)
+			l.config.Log.Warn("leaving-site-not-seen", "site", site, "why", err)
 			continue
 		}
-		if leaving.hold(ctx, site, holds, before); len(holds) == 0 {
-			leaving.gone <- site
+		l.hold(ctx, site, holds, before)
+		if len(holds) == 0 {
+			l.gone <- site
 		}
 	}
 	clock.Pause(ctx, lookAfter)
 }
 
 // hold tells operators what holds a site, and takes away what has had no lease for so long that nobody relies on one any more.
-func (leaving *leaving) hold(ctx context.Context, site string, holds []engine.Hold, before map[engine.Hold]time.Duration) {
+func (l *leaving) hold(ctx context.Context, site string, holds []engine.Hold, before map[engine.Hold]time.Duration) {
 	now, held := clock.Now(), Held{Keys: len(holds)}
 	for _, hold := range holds {
 		if hold.IsLeased {
@@ -66,25 +67,24 @@ func (leaving *leaving) hold(ctx context.Context, site string, holds []engine.Ho
 		if !isKnown {
 			since = now
 		}
-		leaving.since[hold] = since
+		l.since[hold] = since
 		if now-since < engine.LeaseTime {
 			continue
 		}
-		switch removed, err := leaving.config.Engine.RemoveHold(ctx, hold); {
+		switch removed, err := l.config.Engine.RemoveHold(ctx, hold); {
 		case err != nil:
-			leaving.config.Log.Warn("key-not-removed", "site", site, "key", hold.Key, "why", err)
+			l.config.Log.Warn("key-not-removed", "site", site, "key", hold.Key, "why", err)
 		case removed:
-			leaving.config.Log.Info("removed-key", "site", site, "key", hold.Key)
+			l.config.Log.Info("removed-key", "site", site, "key", hold.Key)
 		}
 	}
 	if len(holds) > 0 {
-		leaving.config.Log.Warn("leaving-site-has-keys", "site", site, "keys", held.Keys, "without-lease", held.WithoutLease, "key", holds[0].Key)
+		l.config.Log.Warn("leaving-site-has-keys", "site", site, "keys", held.Keys, "without-lease", held.WithoutLease, "key", holds[0].Key)
 	}
-	leaving.with(func(*epoch.Core) error {
-		if leaving.held == nil {
-			leaving.held = map[string]Held{}
+	l.see(func(*epoch.Core) {
+		if l.held == nil {
+			l.held = map[string]Held{}
 		}
-		leaving.held[site] = held
-		return nil
+		l.held[site] = held
 	})
 }

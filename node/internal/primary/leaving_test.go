@@ -8,17 +8,17 @@ import (
 
 	"go.etcd.io/etcd/clientv3"
 
-	"ordup-node/internal/engine"
-	"ordup-node/internal/epoch"
-	"ordup-node/internal/primary"
-	"ordup-node/internal/site"
+	"ordup.dev/node/internal/engine"
+	"ordup.dev/node/internal/epoch"
+	"ordup.dev/node/internal/primary"
+	"ordup.dev/node/internal/site"
 )
 
 var withoutNorth = []string{"object tea 1", "site south 1", "start"}
 
 // said is whether a line of the log has all these words.
-func (deployment *deployment) said(words ...string) bool {
-	for _, line := range strings.Split(deployment.lines.all(), "\n") {
+func (d *deployment) said(words ...string) bool {
+	for _, line := range strings.Split(d.lines.all(), "\n") {
 		count := 0
 		for _, word := range words {
 			if strings.Contains(line, word) {
@@ -43,14 +43,14 @@ func TestAKeyWithoutALeaseHoldsNoSite(t *testing.T) {
 	}
 	asked := time.Now()
 	begun, err := deployment.next(epoch.Wish{From: 1, Declarations: withoutNorth})
-	is(t, []interface{}{2, nil}, []interface{}{begun, err})
+	is(t, []any{2, nil}, []any{begun, err})
 	if took := time.Since(asked); took < engine.LeaseTime {
 		t.Errorf("the next epoch began after %v", took)
 	}
 	is(t, true, deployment.said("leaving-site-has-keys", "site=north", "keys=3", "without-lease=3", "key=site/north/"))
 	is(t, true, deployment.said("removed-key", `key="site/north/\xff\x00"`))
 	left, err := deployment.members.Client().Get(context.Background(), "site/nort", clientv3.WithPrefix())
-	is(t, []interface{}{2, nil}, []interface{}{left.Count, err})
+	is(t, []any{2, nil}, []any{left.Count, err})
 }
 
 // One with a lease that lives holds it, whatever it is, and is told and counted.
@@ -78,7 +78,7 @@ func TestAKeyWithALeaseHoldsASiteAndIsTold(t *testing.T) {
 	is(t, map[string]primary.Held{"north": {Keys: 1}}, own.Status().Held)
 	is(t, true, deployment.said("leaving-site-has-keys", "site=north", "keys=1", "without-lease=0", `key="site/north/\xff"`))
 	_, err = client.Revoke(ctx, lease.ID)
-	is(t, []interface{}{nil, nil}, []interface{}{err, <-began})
+	is(t, []any{nil, nil}, []any{err, <-began})
 	is(t, 0, len(own.Status().Held))
 }
 
@@ -95,6 +95,6 @@ func TestAKeyThatIsWrittenOverHoldsItsSite(t *testing.T) {
 	link.Cut()
 	deployment.members.Put("site/north/north", "by hand")
 	begun, err := deployment.next(epoch.Wish{From: 1, Declarations: withoutNorth})
-	is(t, []interface{}{false, 2, nil}, []interface{}{serves(north), begun, err})
+	is(t, []any{false, 2, nil}, []any{serves(north), begun, err})
 	is(t, true, deployment.said("removed-key", "key=site/north/north"))
 }

@@ -2,6 +2,6 @@
 
 package primary_test
 
-import "ordup-node/internal/library"
+import "ordup.dev/node/internal/library"
 
 func init() { openStore = library.Open }

@@ -10,8 +10,8 @@ import (
 	"testing"
 	"time"
 
-	"ordup-node/internal/epoch"
-	"ordup-node/internal/primary"
+	"ordup.dev/node/internal/epoch"
+	"ordup.dev/node/internal/primary"
 )
 
 // NODE_LOAD=1,10,100,1000 measures so many clients: the answers a second and the wait of each, beside the engine's own transactions.

@@ -5,9 +5,9 @@ import (
 	"testing"
 	"time"
 
-	"ordup-node/internal/epoch"
-	"ordup-node/internal/exit"
-	"ordup-node/internal/site"
+	"ordup.dev/node/internal/epoch"
+	"ordup.dev/node/internal/exit"
+	"ordup.dev/node/internal/site"
 )
 
 // A site that follows the script of one deployment and tells the primaries of another has run as many updates, and is of no use there.
@@ -28,7 +28,7 @@ func TestTheSiteOfAnotherDeploymentIsRefused(t *testing.T) {
 	case <-time.After(10 * time.Second):
 		t.Fatal("it goes on")
 	}
-	is(t, []interface{}{true, exit.NoPlace}, []interface{}{errors.Is(err, epoch.ErrOtherScript), exit.Of(err)})
+	is(t, []any{true, exit.NoPlace}, []any{errors.Is(err, epoch.ErrOtherScript), exit.Of(err)})
 	is(t, int64(0), strays.Status().Readers)
 	// One of its own follows, tells and serves.
 	own, _ := deployment.site("north", "")

@@ -14,14 +14,15 @@ import (
 	"sync/atomic"
 	"time"
 
-	"ordup-node/internal/archive"
-	"ordup-node/internal/clock"
-	"ordup-node/internal/engine"
-	"ordup-node/internal/epoch"
-	"ordup-node/internal/exit"
-	"ordup-node/internal/logs"
-	"ordup-node/internal/script"
-	"ordup-node/internal/store"
+	"ordup.dev/node/internal/archive"
+	"ordup.dev/node/internal/clock"
+	"ordup.dev/node/internal/engine"
+	"ordup.dev/node/internal/epoch"
+	"ordup.dev/node/internal/exit"
+	"ordup.dev/node/internal/follower"
+	"ordup.dev/node/internal/logs"
+	"ordup.dev/node/internal/script"
+	"ordup.dev/node/internal/store"
 )
 
 const (
@@ -60,32 +61,47 @@ type Config struct {
 type Primary struct {
 	config Config
 	// The name of this process, as it stands in the entries and at the key of the lease.
-	own   string
-	lease *engine.Lease
-	ended chan struct{}
-	// The core, of Run, which others only look at.
+	own    string
+	lease  *engine.Lease
+	keeper *archive.Keeper
+	ended  chan struct{}
+	counts counters
+	// What other goroutines ask, under a lock of its own.
+	calls calls
+
+	// What stands below coreLock up to the blank line is under it. Others than Run hand the core places, and look.
 	coreLock sync.Mutex
 	core     *epoch.Core
-	// Whether the settings were found to be those with which the script began, when this process saw it first.
-	agreed bool
-	calls  calls
-	counts Counts
-	// The last entry of the core that is in the script, and when it came.
-	mark   engine.Mark
+	// When the last entry of the core came that is in the script.
 	markAt time.Duration
 	// The digests of what the core has run or sealed.
 	digests digests
 	rounds  rounds
 	// What holds sites that are taken out, by the last look of this process.
-	held   map[string]Held
-	keeper *archive.Keeper
+	held map[string]Held
+
+	// Of the goroutine of Run alone: the last entry of the core that is in the script, and whether the settings were found to be those with
+	// which the script began, when this process saw it first.
+	follower follower.Follower
+	agreed   bool
 }
 
-// Counts are what this process did. They are read by atomic loads.
+// Counts are what this process did.
 type Counts struct {
 	Requests, Answers, Entries, Bytes int64
-	// Full is 1 where the engine is full.
-	Full int64
+	// Full is whether the engine is full.
+	Full bool
+}
+
+// counters count it. Any goroutine reads them.
+type counters struct {
+	requests, answers, entries, bytes atomic.Int64
+	full                              atomic.Bool
+}
+
+func (c *counters) now() Counts {
+	return Counts{Requests: c.requests.Load(), Answers: c.answers.Load(), Entries: c.entries.Load(),
+		Bytes: c.bytes.Load(), Full: c.full.Load()}
 }
 
 // New gives a primary, which Run runs.
@@ -98,6 +114,7 @@ func New(config Config) (*Primary, error) {
 		return nil, exit.With(exit.Words, fmt.Errorf("archives lie at one host or more, and not at %d", config.Copies))
 	}
 	primary := &Primary{config: config, own: own, ended: make(chan struct{}, 1)}
+	primary.follower = follower.Follower{Engine: config.Engine, Log: config.Log, Pause: afterFailure}
 	primary.calls.init(config.Address)
 	primary.keeper = &archive.Keeper{Engine: config.Engine.Apart(), Folder: config.Folder, Host: config.Host, Copies: config.Copies,
 		Log: config.Log, Ended: primary.ended}
@@ -106,23 +123,24 @@ func New(config Config) (*Primary, error) {
 }
 
 // Run stands by and writes, until the context ends or an error ends the process. Then the lease is given back.
-func (primary *Primary) Run(ctx context.Context) error {
+func (p *Primary) Run(ctx context.Context) error {
+	// It goes on until all is written, so that the lease is given back last.
 	beside, cancel := context.WithCancel(context.Background())
 	var others sync.WaitGroup
 	defer others.Wait()
 	defer cancel()
-	for _, run := range []func(context.Context){primary.lease.Run, primary.keeper.Run} {
+	for _, run := range []func(context.Context){p.lease.Run, p.keeper.Run} {
 		others.Add(1)
 		go func(run func(context.Context)) { defer others.Done(); run(beside) }(run)
 	}
-	defer primary.forget()
-	defer primary.calls.end()
+	defer p.forget()
+	defer p.calls.end()
 	for ctx.Err() == nil {
-		err := primary.standBy(ctx)
+		err := p.standBy(ctx)
 		if err == nil {
-			err = primary.writeAll(ctx)
+			err = p.writeAll(ctx)
 		}
-		if err = primary.heed(ctx, err); err != nil {
+		if err = p.heed(ctx, err); err != nil {
 			return err
 		}
 	}
@@ -130,40 +148,43 @@ func (primary *Primary) Run(ctx context.Context) error {
 }
 
 // heed is whether an error ends the process. After most it goes on, some with a core that runs the script anew.
-func (primary *Primary) heed(ctx context.Context, err error) error {
+func (p *Primary) heed(ctx context.Context, err error) error {
 	var taken *engine.TakenError
 	var served *engine.ServedError
 	switch {
 	case err == nil || ctx.Err() != nil:
 		return nil
-	case errors.As(err, &taken) || errors.As(err, &served) || errors.Is(err, engine.ErrLaterEpoch):
-		primary.config.Log.Info("runs-again", "why", err)
-		primary.forget()
-		return nil
-	case engine.IsAway(err):
-		primary.config.Log.Warn("engine-away", "why", err)
-		clock.Pause(ctx, afterFailure)
+	case errors.As(err, &taken) || errors.As(err, &served):
+		p.config.Log.Info("runs-again", "why", err)
+		p.forget()
 		return nil
 	}
-	return err
+	return p.follower.Heed(ctx, err, p.forget)
 }
 
 // forget drops what was run.
-func (primary *Primary) forget() {
-	primary.coreLock.Lock()
-	defer primary.coreLock.Unlock()
-	if primary.core != nil {
-		primary.core.Close()
-		primary.core = nil
+func (p *Primary) forget() {
+	p.coreLock.Lock()
+	defer p.coreLock.Unlock()
+	if p.core != nil {
+		p.core.Close()
+		p.core = nil
 	}
-	primary.mark, primary.digests = engine.Mark{}, digests{}
+	p.follower.Mark, p.digests = engine.Mark{}, digests{}
 }
 
-// with has the core looked at, or worked on, by one goroutine at a time.
-func (primary *Primary) with(do func(*epoch.Core) error) error {
-	primary.coreLock.Lock()
-	defer primary.coreLock.Unlock()
-	return do(primary.core)
+// with has the core worked on, by one goroutine at a time.
+func (p *Primary) with(do func(*epoch.Core) error) error {
+	p.coreLock.Lock()
+	defer p.coreLock.Unlock()
+	return do(p.core)
+}
+
+// see has the core looked at, or told something that cannot fail.
+func (p *Primary) see(do func(*epoch.Core)) {
+	p.coreLock.Lock()
+	defer p.coreLock.Unlock()
+	do(p.core)
 }
 
 // A Status is what an operator may see of a primary.
@@ -191,34 +212,27 @@ type Status struct {
 }
 
 // Status tells what there is.
-func (primary *Primary) Status() Status {
-	status := Status{Writes: primary.calls.isOpen(), Writer: primary.calls.writer(), EngineFailures: primary.config.Engine.Failures()}
-	if left := primary.lease.Until() - clock.Now(); left > 0 {
+func (p *Primary) Status() Status {
+	status := Status{Writes: p.calls.isOpen(), Writer: p.calls.writer(), EngineFailures: p.config.Engine.Failures(),
+		Counts: p.counts.now()}
+	if left := p.lease.Until() - clock.Now(); left > 0 {
 		status.Lease = left
 	}
-	status.Waiting, status.Queued = primary.calls.sizes()
-	status.Archives = primary.keeper.Waiting()
-	primary.with(func(core *epoch.Core) error {
+	status.Waiting, status.Queued = p.calls.sizes()
+	status.Archives = p.keeper.Waiting()
+	p.see(func(core *epoch.Core) {
 		if core != nil {
 			status.Core = core.Status(clock.Now())
 		}
-		if primary.markAt > 0 {
-			status.Since, status.HasSeen = clock.Now()-primary.markAt, true
+		if p.markAt > 0 {
+			status.Since, status.HasSeen = clock.Now()-p.markAt, true
 		}
-		status.Rounds, status.Held = primary.rounds.over(&status.Core), map[string]Held{}
+		status.Rounds, status.Held = p.rounds.over(&status.Core), map[string]Held{}
 		for _, site := range status.Core.Sites {
-			if held, isHeld := primary.held[site.Name]; isHeld && status.Writes && site.Leaves && !site.Gone {
+			if held, isHeld := p.held[site.Name]; isHeld && status.Writes && site.Leaves && !site.Gone {
 				status.Held[site.Name] = held
 			}
 		}
-		return nil
 	})
-	for _, count := range []struct{ to, from *int64 }{
-		{&status.Counts.Requests, &primary.counts.Requests}, {&status.Counts.Answers, &primary.counts.Answers},
-		{&status.Counts.Entries, &primary.counts.Entries}, {&status.Counts.Bytes, &primary.counts.Bytes},
-		{&status.Counts.Full, &primary.counts.Full},
-	} {
-		*count.to = atomic.LoadInt64(count.from)
-	}
 	return status
 }

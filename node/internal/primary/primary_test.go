@@ -12,15 +12,16 @@ import (
 	"testing"
 	"time"
 
-	"ordup-node/internal/archive"
-	"ordup-node/internal/epoch"
-	"ordup-node/internal/etcdtest"
-	"ordup-node/internal/exit"
-	"ordup-node/internal/logs"
-	"ordup-node/internal/modelstore"
-	"ordup-node/internal/primary"
-	"ordup-node/internal/site"
-	"ordup-node/internal/store"
+	"ordup.dev/node/internal/archive"
+	"ordup.dev/node/internal/epoch"
+	"ordup.dev/node/internal/etcdtest"
+	"ordup.dev/node/internal/exit"
+	"ordup.dev/node/internal/logs"
+	"ordup.dev/node/internal/modelstore"
+	"ordup.dev/node/internal/primary"
+	"ordup.dev/node/internal/script"
+	"ordup.dev/node/internal/site"
+	"ordup.dev/node/internal/store"
 )
 
 var shop = []string{"object tea 1000000", "object till 0", "site north 1", "site south 1", "limit north count 3", "start"}
@@ -44,16 +45,16 @@ type lines struct {
 	text bytes.Buffer
 }
 
-func (lines *lines) Write(text []byte) (int, error) {
-	lines.lock.Lock()
-	defer lines.lock.Unlock()
-	return lines.text.Write(text)
+func (l *lines) Write(text []byte) (int, error) {
+	l.lock.Lock()
+	defer l.lock.Unlock()
+	return l.text.Write(text)
 }
 
-func (lines *lines) all() string {
-	lines.lock.Lock()
-	defer lines.lock.Unlock()
-	return lines.text.String()
+func (l *lines) all() string {
+	l.lock.Lock()
+	defer l.lock.Unlock()
+	return l.text.String()
 }
 
 func deploy(t *testing.T, members int, options ...string) *deployment {
@@ -74,61 +75,61 @@ type process struct {
 }
 
 // end ends the process as a signal does, and returns its error.
-func (process *process) end() error {
-	process.stop()
-	return <-process.done
+func (p *process) end() error {
+	p.stop()
+	return <-p.done
 }
 
-func (deployment *deployment) run(run func(context.Context) error) *process {
+func (d *deployment) run(run func(context.Context) error) *process {
 	ctx, cancel := context.WithCancel(context.Background())
 	process := &process{cancel, make(chan error, 1)}
 	go func() {
 		err := run(ctx)
 		if err != nil {
-			deployment.log.Error("ends", "status", exit.Of(err), "why", err)
+			d.log.Error("ends", "status", exit.Of(err), "why", err)
 		}
 		process.done <- err
 	}()
-	deployment.t.Cleanup(cancel)
+	d.t.Cleanup(cancel)
 	return process
 }
 
-func (deployment *deployment) config(host string) primary.Config {
-	return primary.Config{Engine: deployment.members.Engine(), Open: openStore, Host: host, Address: "http://" + host, Versions: []string{"1"},
-		Every: 1000, Remembers: 2, Declarations: shop, Folder: filepath.Join(deployment.t.TempDir(), host), Copies: 2, Log: deployment.log}
+func (d *deployment) config(host string) primary.Config {
+	return primary.Config{Engine: d.members.Engine(), Open: openStore, Host: host, Address: "http://" + host, Versions: []string{"1"},
+		Every: 1000, Remembers: 2, Declarations: shop, Folder: filepath.Join(d.t.TempDir(), host), Copies: 2, Log: d.log}
 }
 
-func (deployment *deployment) primary(config primary.Config) (*primary.Primary, *process) {
-	deployment.t.Helper()
+func (d *deployment) primary(config primary.Config) (*primary.Primary, *process) {
+	d.t.Helper()
 	made, err := primary.New(config)
 	if err != nil {
-		deployment.t.Fatal(err)
+		d.t.Fatal(err)
 	}
-	deployment.lock.Lock()
-	deployment.primaries = append(deployment.primaries, made)
-	deployment.lock.Unlock()
-	return made, deployment.run(made.Run)
+	d.lock.Lock()
+	d.primaries = append(d.primaries, made)
+	d.lock.Unlock()
+	return made, d.run(made.Run)
 }
 
-func (deployment *deployment) site(name, fleet string) (*site.Site, *process) {
-	deployment.t.Helper()
-	made, err := site.New(site.Config{Engine: deployment.members.Engine(), Open: openStore, Name: name, Fleet: fleet, Host: "h-" + name,
-		Versions: []string{"1"}, Teller: deployment, Log: deployment.log})
+func (d *deployment) site(name, fleet string) (*site.Site, *process) {
+	d.t.Helper()
+	made, err := site.New(site.Config{Engine: d.members.Engine(), Open: openStore, Name: name, Fleet: fleet, Host: "h-" + name,
+		Versions: []string{"1"}, Teller: d, Log: d.log})
 	if err != nil {
-		deployment.t.Fatal(err)
+		d.t.Fatal(err)
 	}
-	return made, deployment.run(made.Run)
+	return made, d.run(made.Run)
 }
 
 // Tell takes a place to the primary that writes.
-func (deployment *deployment) Tell(ctx context.Context, place epoch.Place) error {
-	return deployment.toWriter(func(primary *primary.Primary) error { return primary.Tell(ctx, place) })
+func (d *deployment) Tell(ctx context.Context, place epoch.Place) error {
+	return d.toWriter(func(primary *primary.Primary) error { return primary.Tell(ctx, place) })
 }
 
-func (deployment *deployment) toWriter(ask func(*primary.Primary) error) error {
-	deployment.lock.Lock()
-	primaries := append([]*primary.Primary{}, deployment.primaries...)
-	deployment.lock.Unlock()
+func (d *deployment) toWriter(ask func(*primary.Primary) error) error {
+	d.lock.Lock()
+	primaries := append([]*primary.Primary{}, d.primaries...)
+	d.lock.Unlock()
 	err := error(&primary.NotWriterError{})
 	for _, each := range primaries {
 		var other *primary.NotWriterError
@@ -140,13 +141,13 @@ func (deployment *deployment) toWriter(ask func(*primary.Primary) error) error {
 }
 
 // ask asks until there is an answer.
-func (deployment *deployment) ask(client string, number int64, changes string) string {
-	deployment.t.Helper()
+func (d *deployment) ask(client string, number int64, changes string) string {
+	d.t.Helper()
 	ctx, cancel := context.WithTimeout(context.Background(), 30*time.Second)
 	defer cancel()
 	for ctx.Err() == nil {
-		var answer primary.Answer
-		err := deployment.toWriter(func(primary *primary.Primary) (err error) {
+		var answer script.Answer
+		err := d.toWriter(func(primary *primary.Primary) (err error) {
 			answer, err = primary.Submit(ctx, epoch.Request{Client: client, Number: number, Changes: changes})
 			return err
 		})
@@ -155,18 +156,18 @@ func (deployment *deployment) ask(client string, number int64, changes string) s
 			return err.Error()
 		}
 		if err == nil {
-			return answer.Text
+			return answer.String()
 		}
 		time.Sleep(10 * time.Millisecond)
 	}
-	deployment.t.Fatal("there is no answer")
+	d.t.Fatal("there is no answer")
 	return ""
 }
 
-func (deployment *deployment) next(wish epoch.Wish) (begun int64, err error) {
+func (d *deployment) next(wish epoch.Wish) (begun int64, err error) {
 	ctx, cancel := context.WithTimeout(context.Background(), 30*time.Second)
 	defer cancel()
-	err = deployment.toWriter(func(primary *primary.Primary) (err error) {
+	err = d.toWriter(func(primary *primary.Primary) (err error) {
 		begun, err = primary.Next(ctx, wish)
 		return err
 	})
@@ -174,7 +175,7 @@ func (deployment *deployment) next(wish epoch.Wish) (begun int64, err error) {
 }
 
 // read is what a reader is told who has seen this.
-func (deployment *deployment) read(at *site.Site, seen site.Seen) string {
+func (d *deployment) read(at *site.Site, seen site.Seen) string {
 	ctx, cancel := context.WithTimeout(context.Background(), 20*time.Second)
 	defer cancel()
 	for ctx.Err() == nil {
@@ -186,13 +187,13 @@ func (deployment *deployment) read(at *site.Site, seen site.Seen) string {
 		if err != nil {
 			return err.Error()
 		}
-		tea, _ := reading.ValueOf("tea")
+		tea := reading.Values["tea"]
 		return fmt.Sprintf("epoch %d place %d tea=%d", reading.Epoch, reading.Place, tea)
 	}
 	return "nobody serves"
 }
 
-func is(t *testing.T, wants, has interface{}) {
+func is(t *testing.T, wants, has any) {
 	t.Helper()
 	if fmt.Sprint(wants) != fmt.Sprint(has) {
 		t.Errorf("%v instead of %v", has, wants)
@@ -258,16 +259,16 @@ func TestEpochsAndArchives(t *testing.T) {
 		deployment.ask("ann", number, "add:tea:-1")
 	}
 	begun, err := deployment.next(epoch.Wish{From: 1})
-	is(t, []interface{}{2, nil}, []interface{}{begun, err})
+	is(t, []any{2, nil}, []any{begun, err})
 	begun, err = deployment.next(epoch.Wish{From: 1})
-	is(t, []interface{}{2, nil}, []interface{}{begun, err})
+	is(t, []any{2, nil}, []any{begun, err})
 	is(t, "ok acked 20 epoch 1", deployment.ask("ann", 20, "add:tea:-1"))
 	is(t, "epoch 2 place 0 tea=999980", deployment.read(south, site.Seen{Epoch: 2}))
 	is(t, "ok acked 1 epoch 2", deployment.ask("ann", 21, "add:tea:-1"))
 	// One host has the archive, and two should.
 	own := deployment.members.Engine()
 	first, err := own.First(context.Background())
-	is(t, []interface{}{1, nil}, []interface{}{first, err})
+	is(t, []any{1, nil}, []any{first, err})
 	config := deployment.config("p2")
 	two, _ := deployment.primary(config)
 	until(t, 10*time.Second, "the epoch stays in the engine", func() bool {
@@ -284,7 +285,7 @@ func TestEpochsAndArchives(t *testing.T) {
 	until(t, 5*time.Second, "the fresh process does not follow", func() bool { return fresh.Status().Place == 1 })
 	is(t, nil, process.end())
 	begun, err = deployment.next(epoch.Wish{From: 2})
-	is(t, []interface{}{3, nil}, []interface{}{begun, err})
+	is(t, []any{3, nil}, []any{begun, err})
 	is(t, "ok acked 1 epoch 3", deployment.ask("ann", 22, "add:tea:-1"))
 }
 
@@ -297,7 +298,7 @@ func TestASiteIsTakenOut(t *testing.T) {
 	is(t, "epoch 1 place 1 tea=999999", deployment.read(north, site.Seen{Epoch: 1, Place: 1}))
 	without := []string{"object tea 5", "site south 1", "start"}
 	begun, err := deployment.next(epoch.Wish{From: 1, Declarations: without})
-	is(t, []interface{}{2, nil}, []interface{}{begun, err})
+	is(t, []any{2, nil}, []any{begun, err})
 	_, err = north.Read(context.Background(), site.Seen{})
 	is(t, site.ErrNotServing, err)
 	is(t, exit.NotInScript, exit.Of(<-processNorth.done))
@@ -305,7 +306,7 @@ func TestASiteIsTakenOut(t *testing.T) {
 	is(t, exit.NotInScript, exit.Of(<-processNorth.done))
 	is(t, nil, processSouth.end())
 	// A site that never comes back is taken out too, once it has no lease.
-	begun, err = deployment.next(epoch.Wish{From: 2, Declarations: shop[2:4:4]})
+	_, err = deployment.next(epoch.Wish{From: 2, Declarations: shop[2:4:4]})
 	is(t, true, err != nil)
 	begun, err = deployment.next(epoch.Wish{From: 2, Declarations: append([]string{"object tea 1"}, shop[2:]...)})
 	is(t, nil, err)
@@ -380,6 +381,6 @@ func TestManyClients(t *testing.T) {
 	deployment.members.Begin(0)
 	clients.Wait()
 	begun, err := deployment.next(epoch.Wish{From: 1})
-	is(t, []interface{}{2, nil}, []interface{}{begun, err})
+	is(t, []any{2, nil}, []any{begun, err})
 	is(t, fmt.Sprintf("epoch 2 place 0 tea=%d", 1_000_000-count*each), deployment.read(south, site.Seen{Epoch: 2}))
 }

@@ -1,6 +1,6 @@
 package primary
 
-import "ordup-node/internal/epoch"
+import "ordup.dev/node/internal/epoch"
 
 // rounds counts the forced rounds of sites over epochs. A core that runs an epoch again finds the same ones, so they are counted once.
 type rounds struct {
@@ -10,34 +10,34 @@ type rounds struct {
 }
 
 // end takes those of an epoch that has ended.
-func (rounds *rounds) end(epoch int64, those map[string]int64) {
-	if epoch <= rounds.ended {
+func (r *rounds) end(epoch int64, those map[string]int64) {
+	if epoch <= r.ended {
 		return
 	}
-	rounds.ended = epoch
-	if rounds.past == nil {
-		rounds.past = map[string]int64{}
+	r.ended = epoch
+	if r.past == nil {
+		r.past = map[string]int64{}
 	}
 	for site, count := range those {
-		rounds.past[site] += count
+		r.past[site] += count
 	}
 }
 
 // over gives the sums, which never get less.
-func (rounds *rounds) over(status *epoch.Status) map[string]int64 {
-	if rounds.most == nil {
-		rounds.most = map[string]int64{}
+func (r *rounds) over(status *epoch.Status) map[string]int64 {
+	if r.most == nil {
+		r.most = map[string]int64{}
 	}
 	sums := map[string]int64{}
 	for _, site := range status.Sites {
-		sum := rounds.past[site.Name]
-		if status.Epoch > rounds.ended {
+		sum := r.past[site.Name]
+		if status.Epoch > r.ended {
 			sum += site.Rounds
 		}
-		if sum < rounds.most[site.Name] {
-			sum = rounds.most[site.Name]
+		if sum < r.most[site.Name] {
+			sum = r.most[site.Name]
 		}
-		rounds.most[site.Name], sums[site.Name] = sum, sum
+		r.most[site.Name], sums[site.Name] = sum, sum
 	}
 	return sums
 }

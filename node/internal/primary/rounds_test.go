@@ -3,7 +3,7 @@ package primary
 import (
 	"testing"
 
-	"ordup-node/internal/epoch"
+	"ordup.dev/node/internal/epoch"
 )
 
 func TestRoundsNeverGetLess(t *testing.T) {

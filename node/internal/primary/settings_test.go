@@ -4,10 +4,10 @@ import (
 	"strings"
 	"testing"
 
-	"ordup-node/internal/epoch"
-	"ordup-node/internal/exit"
-	"ordup-node/internal/primary"
-	"ordup-node/internal/script"
+	"ordup.dev/node/internal/epoch"
+	"ordup.dev/node/internal/exit"
+	"ordup.dev/node/internal/primary"
+	"ordup.dev/node/internal/script"
 )
 
 // A primary comes back with the settings with which the script began, after any wish of an operator. With others it does not.
@@ -21,7 +21,7 @@ func TestAPrimaryComesBackAfterAnyWish(t *testing.T) {
 	for at, wish := range []epoch.Wish{{Declarations: other}, {Settings: script.Settings{Every: 500, Remembers: 7, Seconds: 30}}, {}} {
 		wish.From = int64(at + 1)
 		begun, err := deployment.next(wish)
-		is(t, []interface{}{at + 2, nil}, []interface{}{begun, err})
+		is(t, []any{at + 2, nil}, []any{begun, err})
 	}
 	is(t, nil, process.end())
 	_, process = deployment.primary(deployment.config("p1"))
@@ -35,16 +35,18 @@ func TestAPrimaryComesBackAfterAnyWish(t *testing.T) {
 		{func(config *primary.Config) { config.Remembers = 7 }, []string{"7 ", "2 "}},
 		{func(config *primary.Config) { config.Seconds = 30 }, []string{"30 ", "600 "}},
 	} {
-		config := deployment.config("p2")
-		row.change(&config)
-		_, refused := deployment.primary(config)
-		err := <-refused.done
-		is(t, exit.Words, exit.Of(err))
-		for _, word := range row.says {
-			if err != nil && !strings.Contains(err.Error()+" ", word) {
-				t.Errorf("%v does not name %s", err, word)
+		t.Run(row.says[0], func(t *testing.T) {
+			config := deployment.config("p2")
+			row.change(&config)
+			_, refused := deployment.primary(config)
+			err := <-refused.done
+			is(t, exit.Words, exit.Of(err))
+			for _, word := range row.says {
+				if err != nil && !strings.Contains(err.Error()+" ", word) {
+					t.Errorf("%v does not name %s", err, word)
+				}
 			}
-		}
+		})
 	}
 	is(t, nil, process.end())
 }

@@ -6,29 +6,29 @@ import (
 	"fmt"
 	"strings"
 
-	"ordup-node/internal/clock"
-	"ordup-node/internal/engine"
-	"ordup-node/internal/epoch"
-	"ordup-node/internal/exit"
-	"ordup-node/internal/script"
+	"ordup.dev/node/internal/clock"
+	"ordup.dev/node/internal/engine"
+	"ordup.dev/node/internal/epoch"
+	"ordup.dev/node/internal/exit"
+	"ordup.dev/node/internal/script"
 )
 
 // standBy runs the script as it comes, until the lease names this process and the script was taken over. A process that slept may have
 // lost the lease, and not know it yet: so it takes over only while it may rely on it.
-func (primary *Primary) standBy(ctx context.Context) error {
-	for !primary.lease.Relies() {
-		if err := primary.follow(ctx); err != nil {
+func (p *Primary) standBy(ctx context.Context) error {
+	for !p.lease.Relies() {
+		if err := p.follow(ctx); err != nil {
 			return err
 		}
 	}
-	return primary.takeOver(ctx)
+	return p.takeOver(ctx)
 }
 
 // follow runs the script as it comes, until the lease names this process.
-func (primary *Primary) follow(ctx context.Context) error {
+func (p *Primary) follow(ctx context.Context) error {
 	following, cancel := context.WithCancel(ctx)
 	defer cancel()
-	changed := primary.lease.Changed()
+	changed := p.lease.Changed()
 	go func() {
 		select {
 		case <-changed:
@@ -36,23 +36,23 @@ func (primary *Primary) follow(ctx context.Context) error {
 		case <-following.Done():
 		}
 	}()
-	if primary.lease.Relies() {
+	if p.lease.Relies() {
 		return nil
 	}
-	err := primary.start(following)
+	err := p.start(following)
 	if err == nil {
-		primary.calls.set(false, primary.address(following))
-		err = primary.config.Engine.Follow(following, primary.next(), primary.replay)
+		p.calls.set(false, p.address(following))
+		err = p.follower.Follow(following, p.next(), p.replay)
 	}
 	if following.Err() != nil && ctx.Err() == nil {
 		return nil
 	}
-	return primary.gap(ctx, err)
+	return err
 }
 
 // address is where the process is that writes, or "".
-func (primary *Primary) address(ctx context.Context) string {
-	writer, err := primary.config.Engine.Writer(ctx)
+func (p *Primary) address(ctx context.Context) string {
+	writer, err := p.config.Engine.Writer(ctx)
 	if err != nil {
 		return ""
 	}
@@ -65,52 +65,48 @@ func addressOf(writer string) string {
 	return address
 }
 
-func (primary *Primary) next() (next int64) {
-	primary.with(func(core *epoch.Core) error { next = core.Next(); return nil })
+func (p *Primary) next() (next int64) {
+	p.see(func(core *epoch.Core) { next = core.Next() })
 	return next
 }
 
 // start gives a core before the last epoch, where there is none. Else it looks whether the script still has what the core has run.
-func (primary *Primary) start(ctx context.Context) error {
-	first, err := primary.config.Engine.Resume(ctx, &primary.mark)
+func (p *Primary) start(ctx context.Context) error {
+	first, err := p.follower.Start(ctx)
 	if err != nil {
 		return err
 	}
-	return primary.with(func(core *epoch.Core) error {
+	p.see(func(core *epoch.Core) {
 		if core == nil {
-			primary.core = primary.newCore(first)
+			p.core = p.newCore(first)
 		}
-		return nil
 	})
+	return nil
 }
 
-func (primary *Primary) newCore(first int64) *epoch.Core {
-	return epoch.New(epoch.Config{Open: primary.config.Open, Writer: primary.own, Versions: primary.config.Versions,
-		Ended: primary.rounds.end}, first)
+func (p *Primary) newCore(first int64) *epoch.Core {
+	return epoch.New(epoch.Config{Open: p.config.Open, Writer: p.own, Versions: p.config.Versions,
+		Ended: p.rounds.end}, first)
 }
 
 // replay runs entries of the script.
-func (primary *Primary) replay(entries []engine.Raw) error {
-	return primary.with(func(core *epoch.Core) error {
+func (p *Primary) replay(entries []engine.Raw) error {
+	return p.with(func(core *epoch.Core) error {
 		for _, raw := range entries {
-			entry, err := epoch.Parse(raw.Number, raw.Text)
+			entry, err := p.follower.Run(core, raw)
 			if err != nil {
 				return err
 			}
-			if err = core.Replay(raw.Number, entry); err != nil {
-				return err
-			}
-			primary.mark.Set(raw.Number, raw.Text)
-			primary.markAt = clock.Now()
-			primary.digests.add(&primary.mark, entry.Begins())
-			if address := addressOf(entry.Writer); address != primary.calls.writer() {
-				primary.calls.set(false, address)
+			p.markAt = clock.Now()
+			p.digests.add(&p.follower.Mark, entry.Begins())
+			if address := addressOf(entry.Writer); address != p.calls.writer() {
+				p.calls.set(false, address)
 			}
 			if !entry.Begins() {
 				continue
 			}
-			primary.noteEpoch()
-			if err = primary.agrees(core); err != nil {
+			p.noteEpoch()
+			if err = p.agrees(core); err != nil {
 				return err
 			}
 		}
@@ -119,19 +115,19 @@ func (primary *Primary) replay(entries []engine.Raw) error {
 }
 
 // noteEpoch has the archives looked at.
-func (primary *Primary) noteEpoch() {
+func (p *Primary) noteEpoch() {
 	select {
-	case primary.ended <- struct{}{}:
+	case p.ended <- struct{}{}:
 	default:
 	}
 }
 
 // agrees is whether this primary was started with the settings and the declarations with which the script began, whatever operators have
 // wished since.
-func (primary *Primary) agrees(core *epoch.Core) error {
-	began, own := core.Settings().Began, primary.config
+func (p *Primary) agrees(core *epoch.Core) error {
+	began, own := core.Settings().Began, p.config
 	switch digest := epoch.DigestOf(own.Declarations); {
-	case primary.agreed:
+	case p.agreed:
 		return nil
 	case own.Every != 0 && own.Every != began.Every:
 		return differs("every: %d requests, and %d", own.Every, began.Every)
@@ -142,68 +138,59 @@ func (primary *Primary) agrees(core *epoch.Core) error {
 	case len(own.Declarations) > 0 && digest != began.Origin:
 		return differs("declarations: those of the digest %s, and %s", digest, began.Origin)
 	}
-	primary.agreed = true
+	p.agreed = true
 	return nil
 }
 
-func differs(format string, own, began interface{}) error {
+func differs(format string, own, began any) error {
 	return exit.With(exit.Words, fmt.Errorf("the script did not begin with these settings, "+format, own, began))
 }
 
-// gap tells what it means that an entry came out of order: that an epoch ended meanwhile and is archived, or a fault.
-func (primary *Primary) gap(ctx context.Context, err error) error {
-	var gap *epoch.GapError
-	if errors.As(err, &gap) {
-		return primary.config.Engine.WhyGap(ctx, gap.Number, err)
-	}
-	return err
-}
-
 // catchUp runs all that the script has.
-func (primary *Primary) catchUp(ctx context.Context) error {
-	if err := primary.start(ctx); err != nil {
+func (p *Primary) catchUp(ctx context.Context) error {
+	if err := p.start(ctx); err != nil {
 		return err
 	}
-	_, err := primary.config.Engine.ReadAll(ctx, primary.next(), primary.replay)
-	return primary.gap(ctx, err)
+	return p.follower.CatchUp(ctx, p.next(), p.replay)
 }
 
 // takeOver writes an entry after the last one. From then on no other primary that runs can write.
-func (primary *Primary) takeOver(ctx context.Context) error {
+func (p *Primary) takeOver(ctx context.Context) error {
 	for {
-		if err := primary.catchUp(ctx); err != nil {
+		if err := p.catchUp(ctx); err != nil {
 			return err
 		}
 		var turn *epoch.Turn
-		err := primary.with(func(core *epoch.Core) (err error) {
-			if turn = core.TakeOver(); core.Epoch() == 0 {
-				turn, err = primary.firstTurn()
+		err := p.with(func(core *epoch.Core) (err error) {
+			turn = core.TakeOver()
+			if core.Epoch() == 0 {
+				turn, err = p.firstTurn()
 			}
 			return err
 		})
 		if err != nil {
 			return err
 		}
-		err = primary.send(ctx, turn)
+		err = p.send(ctx, turn)
 		var taken *engine.TakenError
 		if errors.As(err, &taken) {
 			continue // The primary before was faster, or a write of it was late. So run that too.
 		}
 		if err != nil {
-			return err
+			return fmt.Errorf("take over: %w", err)
 		}
-		primary.config.Log.Info("took-over", "entry", turn.Number, "writer", primary.own)
-		primary.mark.Set(turn.Number, turn.Text)
-		return primary.with(func(core *epoch.Core) error {
-			primary.digests.add(&primary.mark, turn.First > 0)
+		p.config.Log.Info("took-over", "entry", turn.Number, "writer", p.own)
+		p.follower.Mark.Set(turn.Number, turn.Text)
+		return p.with(func(core *epoch.Core) error {
+			p.digests.add(&p.follower.Mark, turn.First > 0)
 			return core.Replay(turn.Number, turn.Entry())
 		})
 	}
 }
 
 // firstTurn begins an empty script.
-func (primary *Primary) firstTurn() (*epoch.Turn, error) {
-	own := primary.config
+func (p *Primary) firstTurn() (*epoch.Turn, error) {
+	own := p.config
 	if len(own.Declarations) == 0 {
 		return nil, exit.With(exit.Words, errors.New("the script is empty: start a primary with declarations"))
 	}
@@ -217,7 +204,7 @@ func (primary *Primary) firstTurn() (*epoch.Turn, error) {
 		own.Seconds = UsualSeconds
 	}
 	settings := script.Settings{Every: own.Every, Remembers: own.Remembers, Seconds: own.Seconds, Origin: epoch.DigestOf(own.Declarations), Ordup: own.Versions[0]}
-	turn, err := epoch.FirstTurn(epoch.Config{Open: own.Open, Writer: primary.own, Versions: own.Versions}, settings, own.Declarations)
+	turn, err := epoch.FirstTurn(epoch.Config{Open: own.Open, Writer: p.own, Versions: own.Versions}, settings, own.Declarations)
 	if err != nil {
 		return nil, exit.With(exit.Words, err)
 	}

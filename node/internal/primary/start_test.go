@@ -10,11 +10,11 @@ import (
 	"testing"
 	"time"
 
-	"ordup-node/internal/engine"
-	"ordup-node/internal/epoch"
-	"ordup-node/internal/primary"
-	"ordup-node/internal/script"
-	"ordup-node/internal/site"
+	"ordup.dev/node/internal/engine"
+	"ordup.dev/node/internal/epoch"
+	"ordup.dev/node/internal/primary"
+	"ordup.dev/node/internal/script"
+	"ordup.dev/node/internal/site"
 )
 
 // NODE_START=100000,900000 measures how long a primary and a site take to start after so many updates, and their memory. Each is a
@@ -107,8 +107,8 @@ func TestStart(t *testing.T) {
 }
 
 // writeUpdates writes a script of so many updates by 1,000 clients, 200 in an entry, which four sites have told.
-func (deployment *deployment) writeUpdates(updates int) (bytes int) {
-	t, to := deployment.t, deployment.members.Engine()
+func (d *deployment) writeUpdates(updates int) (bytes int) {
+	t, to := d.t, d.members.Engine()
 	config := epoch.Config{Open: openStore, Writer: "p1", Versions: []string{"1"}}
 	turn, err := epoch.FirstTurn(config, script.Settings{Every: epoch.MostEvery, Remembers: 2, Origin: "0", Ordup: "1"}, startDeclarations)
 	is(t, nil, err)

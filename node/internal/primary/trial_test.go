@@ -13,11 +13,11 @@ import (
 	"testing"
 	"time"
 
-	"ordup-node/internal/archive"
-	"ordup-node/internal/epoch"
-	"ordup-node/internal/etcdtest"
-	"ordup-node/internal/script"
-	"ordup-node/internal/site"
+	"ordup.dev/node/internal/archive"
+	"ordup.dev/node/internal/epoch"
+	"ordup.dev/node/internal/etcdtest"
+	"ordup.dev/node/internal/script"
+	"ordup.dev/node/internal/site"
 )
 
 // A trial has clients, readers and faults for NODE_TRIAL seconds, and judges what they saw: by default for a few.
@@ -67,32 +67,32 @@ func TestTrial(t *testing.T) {
 	trial.judge(folder)
 }
 
-func (trial *trial) begin() string {
+func (tr *trial) begin() string {
 	declarations := []string{"object tea 1000000", "object till 0"}
 	for _, name := range []string{"north", "south", "east"} {
 		declarations = append(declarations, "site "+name+" 1", fmt.Sprintf("limit %s count %d", name, limits[name]))
 	}
-	folder := trial.t.TempDir()
+	folder := tr.t.TempDir()
 	for _, host := range []string{"p1", "p2"} {
-		trial.links[host] = trial.members.Link()
-		config := trial.config(host)
-		config.Engine, config.Declarations, config.Every = trial.links[host].Engine(trial.t), append(declarations, "start"), 400
+		tr.links[host] = tr.members.Link()
+		config := tr.config(host)
+		config.Engine, config.Declarations, config.Every = tr.links[host].Engine(tr.t), append(declarations, "start"), 400
 		config.Folder = filepath.Join(folder, host)
-		trial.primary(config)
+		tr.primary(config)
 	}
 	for _, name := range []string{"north", "north-2", "south", "east"} {
-		trial.links[name] = trial.members.Link()
-		trial.sites[name], _ = trial.siteBy(strings.TrimSuffix(name, "-2"), trial.links[name].Engine(trial.t))
+		tr.links[name] = tr.members.Link()
+		tr.sites[name], _ = tr.siteBy(strings.TrimSuffix(name, "-2"), tr.links[name].Engine(tr.t))
 	}
 	return folder
 }
 
 // fault does one thing, for a while.
-func (trial *trial) fault() {
+func (tr *trial) fault() {
 	names := []string{"p1", "p2", "north", "north-2", "south", "east"}
-	link := trial.links[names[trial.chance.Intn(len(names))]]
-	member, while := trial.chance.Intn(3), time.Duration(trial.chance.Intn(1500))*time.Millisecond
-	switch trial.chance.Intn(6) {
+	link := tr.links[names[tr.chance.Intn(len(names))]]
+	member, while := tr.chance.Intn(3), time.Duration(tr.chance.Intn(1500))*time.Millisecond
+	switch tr.chance.Intn(6) {
 	case 0:
 		link.Cut()
 		time.Sleep(while * 4)
@@ -106,63 +106,64 @@ func (trial *trial) fault() {
 		time.Sleep(while)
 		link.Delay(0)
 	case 3:
-		trial.members.Kill(member)
+		tr.members.Kill(member)
 		time.Sleep(while)
-		trial.members.Begin(member)
+		tr.members.Begin(member)
 	case 4:
-		trial.members.Signal(member, syscall.SIGSTOP)
+		tr.members.Signal(member, syscall.SIGSTOP)
 		time.Sleep(while)
-		trial.members.Signal(member, syscall.SIGCONT)
+		tr.members.Signal(member, syscall.SIGCONT)
 	case 5:
-		trial.lock.Lock()
-		from := trial.known.Epoch
-		trial.lock.Unlock()
-		go trial.next(epoch.Wish{From: from})
+		tr.lock.Lock()
+		from := tr.known.Epoch
+		tr.lock.Unlock()
+		go tr.next(epoch.Wish{From: from})
 		time.Sleep(while)
 	}
 	time.Sleep(while / 2)
 }
 
 // client asks for one update after another, some of them twice.
-func (trial *trial) client(client int) {
+func (tr *trial) client(client int) {
 	chance := rand.New(rand.NewSource(int64(client)))
 	name := fmt.Sprintf("c%d", client)
-	for number := int64(1); time.Now().Before(trial.end); number++ {
+	for number := int64(1); time.Now().Before(tr.end); number++ {
 		changes := []string{"add:tea:-1 add:till:2", "add:tea:-1 add:till:2", "nonsense"}[chance.Intn(3)]
-		answer := trial.ask(name, number, changes)
+		answer := tr.ask(name, number, changes)
 		if again := ""; chance.Intn(4) == 0 {
-			if again = trial.ask(name, number, changes); again != answer {
-				trial.t.Errorf("%s %d is told %s, and then %s", name, number, answer, again)
+			again = tr.ask(name, number, changes)
+			if again != answer {
+				tr.t.Errorf("%s %d is told %s, and then %s", name, number, answer, again)
 			}
 		}
 		var acked site.Seen
 		fmt.Sscanf(answer, "ok acked %d epoch %d", &acked.Place, &acked.Epoch)
-		trial.lock.Lock()
-		trial.told[fmt.Sprintf("%s %d", name, number)] = answer
-		if acked.Epoch > trial.known.Epoch || acked.Epoch == trial.known.Epoch && acked.Place > trial.known.Place {
-			trial.known = acked
+		tr.lock.Lock()
+		tr.told[fmt.Sprintf("%s %d", name, number)] = answer
+		if acked.Epoch > tr.known.Epoch || acked.Epoch == tr.known.Epoch && acked.Place > tr.known.Place {
+			tr.known = acked
 		}
-		trial.lock.Unlock()
+		tr.lock.Unlock()
 		time.Sleep(time.Duration(chance.Intn(20)) * time.Millisecond)
 	}
 }
 
 // reader reads at a process of a site. It sees no less than the limit of the site allows of what was acknowledged as it began.
-func (trial *trial) reader(name string) {
+func (tr *trial) reader(name string) {
 	limit := limits[strings.TrimSuffix(name, "-2")]
-	for time.Now().Before(trial.end) {
-		trial.lock.Lock()
-		known := trial.known
-		trial.lock.Unlock()
-		reading, err := trial.sites[name].Read(context.Background(), site.Seen{})
+	for time.Now().Before(tr.end) {
+		tr.lock.Lock()
+		known := tr.known
+		tr.lock.Unlock()
+		reading, err := tr.sites[name].Read(context.Background(), site.Seen{})
 		if err == nil {
-			trial.weigh(name, known, reading, limit)
+			tr.weigh(name, known, reading, limit)
 		}
 		time.Sleep(2 * time.Millisecond)
 	}
 }
 
-func (trial *trial) weigh(name string, known site.Seen, reading site.Reading, limit int64) {
+func (tr *trial) weigh(name string, known site.Seen, reading site.Reading, limit int64) {
 	missing := int64(0)
 	if reading.Epoch == known.Epoch {
 		missing = known.Place - reading.Place
@@ -170,28 +171,28 @@ func (trial *trial) weigh(name string, known site.Seen, reading site.Reading, li
 		missing = known.Place // All of the epoch before was told.
 	}
 	if missing > limit || reading.Epoch < known.Epoch-1 {
-		trial.t.Errorf("%s shows %d of epoch %d, and %d of epoch %d was acknowledged", name, reading.Place, reading.Epoch, known.Place, known.Epoch)
+		tr.t.Errorf("%s shows %d of epoch %d, and %d of epoch %d was acknowledged", name, reading.Place, reading.Epoch, known.Place, known.Epoch)
 	}
-	tea, _ := reading.ValueOf("tea")
-	till, _ := reading.ValueOf("till")
+	tea := reading.Values["tea"]
+	till := reading.Values["till"]
 	if till != 2*(1_000_000-tea) {
-		trial.t.Errorf("%s shows %v", name, reading.Values)
+		tr.t.Errorf("%s shows %v", name, reading.Values)
 	}
-	trial.lock.Lock()
-	defer trial.lock.Unlock()
-	trial.readings++
+	tr.lock.Lock()
+	defer tr.lock.Unlock()
+	tr.readings++
 	if missing > 0 {
-		trial.behind++
+		tr.behind++
 	}
 }
 
 // judge looks at the archives and the script: each request stands there once, with the answer that the client was told.
-func (trial *trial) judge(folder string) {
-	from := trial.known.Epoch
-	if _, err := trial.next(epoch.Wish{From: from}); err != nil {
-		trial.t.Fatal(err)
+func (tr *trial) judge(folder string) {
+	from := tr.known.Epoch
+	if _, err := tr.next(epoch.Wish{From: from}); err != nil {
+		tr.t.Fatal(err)
 	}
-	until(trial.t, 20*time.Second, "the epochs stay in the engine", func() bool {
+	until(tr.t, 20*time.Second, "the epochs stay in the engine", func() bool {
 		_, err := os.Stat(filepath.Join(folder, "p1", archive.NameOf(from)))
 		_, failure := os.Stat(filepath.Join(folder, "p2", archive.NameOf(from)))
 		return err == nil && failure == nil
@@ -199,7 +200,7 @@ func (trial *trial) judge(folder string) {
 	asked, answered, updates := map[string]int{}, map[string]string{}, 0
 	for number := int64(1); number <= from; number++ {
 		text, err := os.ReadFile(filepath.Join(folder, "p1", archive.NameOf(number)))
-		is(trial.t, nil, err)
+		is(tr.t, nil, err)
 		for _, line := range strings.Split(string(text), "\n") {
 			words := strings.SplitN(line, " ", 6)
 			switch {
@@ -211,17 +212,17 @@ func (trial *trial) judge(folder string) {
 			}
 		}
 	}
-	for name, answer := range trial.told {
+	for name, answer := range tr.told {
 		if asked[name] != 1 || answered[name] != answer {
-			trial.t.Errorf("%s stands there %d times with %q, and was told %q", name, asked[name], answered[name], answer)
+			tr.t.Errorf("%s stands there %d times with %q, and was told %q", name, asked[name], answered[name], answer)
 		}
 	}
-	_, first, err := trial.members.Engine().Epoch(context.Background())
-	is(trial.t, nil, err)
-	text, _, err := trial.members.Engine().Entry(context.Background(), first)
-	is(trial.t, nil, err)
+	_, first, err := tr.members.Engine().Epoch(context.Background())
+	is(tr.t, nil, err)
+	text, _, err := tr.members.Engine().Entry(context.Background(), first)
+	is(tr.t, nil, err)
 	entry, err := script.Parse(text)
-	is(trial.t, nil, err)
-	trial.t.Logf("%d requests, %d updates, %d epochs, %d readings, %d behind; the epoch %d begins with entry %d", len(trial.told), updates, from,
-		trial.readings, trial.behind, entry.Epoch, first)
+	is(tr.t, nil, err)
+	tr.t.Logf("%d requests, %d updates, %d epochs, %d readings, %d behind; the epoch %d begins with entry %d", len(tr.told), updates, from,
+		tr.readings, tr.behind, entry.Epoch, first)
 }

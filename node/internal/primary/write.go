@@ -2,12 +2,12 @@ package primary
 
 import (
 	"context"
-	"sync/atomic"
+	"fmt"
 	"time"
 
-	"ordup-node/internal/clock"
-	"ordup-node/internal/engine"
-	"ordup-node/internal/epoch"
+	"ordup.dev/node/internal/clock"
+	"ordup.dev/node/internal/engine"
+	"ordup.dev/node/internal/epoch"
 )
 
 // A writing is what one time as the writer needs: from a take-over to its end.
@@ -25,81 +25,80 @@ type writing struct {
 
 // writeAll takes what comes and writes it, until the lease is lost, the context ends or something fails. What was run and not written is
 // dropped with the core.
-func (primary *Primary) writeAll(ctx context.Context) error {
-	writing := &writing{Primary: primary, landed: make(chan error, 1), leaving: newLeaving(primary)}
-	primary.calls.set(true, addressOf(primary.own))
-	primary.config.Log.Info("writes", "writer", primary.own)
+func (p *Primary) writeAll(ctx context.Context) error {
+	writing := &writing{Primary: p, landed: make(chan error, 1), leaving: newLeaving(p)}
+	p.calls.set(true, addressOf(p.own))
+	p.config.Log.Info("writes", "writer", p.own)
 	err := writing.run(ctx)
 	isWhole := err == nil && ctx.Err() == nil && writing.isIdle()
-	primary.calls.set(false, "")
-	primary.config.Log.Info("stands-by", "writer", primary.own)
+	p.calls.set(false, "")
+	p.config.Log.Info("stands-by", "writer", p.own)
 	if !isWhole {
-		primary.forget()
+		p.forget()
 	}
 	return err
 }
 
 // isIdle is whether all that was run is written.
-func (writing *writing) isIdle() (isIdle bool) {
-	writing.with(func(core *epoch.Core) error {
-		isIdle = writing.flying == nil && core.IsIdle()
-		return nil
-	})
+func (w *writing) isIdle() (isIdle bool) {
+	w.see(func(core *epoch.Core) { isIdle = w.flying == nil && core.IsIdle() })
 	return isIdle
 }
 
-func (writing *writing) run(ctx context.Context) error {
+func (w *writing) run(ctx context.Context) error {
+	// What is on its way is waited for some time after the context has ended.
 	sending, cancel := context.WithCancel(context.Background())
 	defer cancel()
 	ends, ended := ctx.Done(), time.Duration(0)
 	for {
-		isHeld := writing.lease.Held()
-		if err := writing.work(sending, isHeld, ended > 0); err != nil {
+		isHeld := w.lease.Held()
+		if err := w.work(sending, isHeld, ended > 0); err != nil {
 			return err
 		}
-		if (ended > 0 || !isHeld) && (writing.flying == nil || ended > 0 && clock.Now() > ended) {
+		if (ended > 0 || !isHeld) && (w.flying == nil || ended > 0 && clock.Now() > ended) {
 			return nil
 		}
-		timer := time.NewTimer(writing.wait(ended > 0))
+		timer := time.NewTimer(w.wait(ended > 0))
 		var err error
 		select {
-		case landed := <-writing.landed:
-			err = writing.land(landed)
-		case site := <-writing.leaving.gone:
-			err = writing.goes(site)
-		case <-writing.calls.wake:
-		case <-writing.lease.Changed():
+		case landed := <-w.landed:
+			err = w.land(landed)
+		case site := <-w.leaving.gone:
+			err = w.goes(site)
+		case <-w.calls.wake:
+		case <-w.lease.Changed():
 		case <-timer.C:
 		case <-ends:
 			ends, ended = nil, clock.Now()+endTime
 		}
-		if timer.Stop(); err != nil {
+		timer.Stop()
+		if err != nil {
 			return err
 		}
 	}
 }
 
 // work takes what came, unless the process ends, and sends the open turn. Without the lease it does neither.
-func (writing *writing) work(sending context.Context, isHeld, ends bool) error {
+func (w *writing) work(sending context.Context, isHeld, ends bool) error {
 	if !isHeld {
 		return nil
 	}
 	if !ends {
-		if err := writing.take(); err != nil {
+		if err := w.take(); err != nil {
 			return err
 		}
-		writing.leaving.start(sending)
+		w.leaving.start(sending)
 	}
-	return writing.seal(sending)
+	return w.seal(sending)
 }
 
 // wait is after how long there is something to do though nothing comes.
-func (writing *writing) wait(ends bool) time.Duration {
+func (w *writing) wait(ends bool) time.Duration {
 	wait := 10 * time.Second
 	for _, other := range []struct {
 		isDue bool
 		after time.Duration
-	}{{writing.again > 0, writing.again}, {writing.retry > 0, retryAfter}, {ends, retryAfter}} {
+	}{{w.again > 0, w.again}, {w.retry > 0, retryAfter}, {ends, retryAfter}} {
 		if other.isDue && other.after < wait {
 			wait = other.after
 		}
@@ -108,31 +107,31 @@ func (writing *writing) wait(ends bool) time.Duration {
 }
 
 // take hands the core what came, and has it work.
-func (writing *writing) take() error {
-	calls, now := &writing.calls, clock.Now()
+func (w *writing) take() error {
+	calls, now := &w.calls, clock.Now()
 	var came []*call
 	calls.lock.Lock()
-	if now >= writing.retry {
-		came, writing.retry = calls.take(), 0
+	if now >= w.retry {
+		came, w.retry = calls.takeLocked(), 0
 	}
 	nexts := calls.nexts
 	calls.nexts = nil
 	calls.lock.Unlock()
-	return writing.with(func(core *epoch.Core) (err error) {
+	return w.with(func(core *epoch.Core) (err error) {
 		for _, next := range nexts {
 			calls.keepWish(next, core.AskNext(next.wish))
 		}
-		if err = writing.ask(core, came, now); err != nil {
+		if err = w.ask(core, came, now); err != nil {
 			return err
 		}
-		writing.again, err = core.Work(now)
+		w.again, err = core.Work(now)
 		calls.tellWishes(core)
 		return err
 	})
 }
 
 // ask has the core take requests. Who has an answer is told, and the others wait.
-func (writing *writing) ask(core *epoch.Core, came []*call, now time.Duration) error {
+func (w *writing) ask(core *epoch.Core, came []*call, now time.Duration) error {
 	if len(came) == 0 {
 		return core.Failure()
 	}
@@ -150,85 +149,88 @@ func (writing *writing) ask(core *epoch.Core, came []*call, now time.Duration) e
 		}
 		return err
 	}
-	later := writing.calls.sort(came, verdicts)
-	atomic.AddInt64(&writing.counts.Requests, int64(len(came)-later))
+	later := w.calls.sort(came, verdicts)
+	w.counts.requests.Add(int64(len(came) - later))
 	if later > 0 {
-		writing.retry = now + retryAfter
+		w.retry = now + retryAfter
 	}
 	return nil
 }
 
 // seal sends the open turn, where none is on its way.
-func (writing *writing) seal(ctx context.Context) error {
-	if writing.flying != nil {
+func (w *writing) seal(ctx context.Context) error {
+	if w.flying != nil {
 		return nil
 	}
-	err := writing.with(func(core *epoch.Core) (err error) {
-		writing.flying, err = core.Seal(clock.Now())
-		if turn := writing.flying; err == nil && turn != nil {
+	err := w.with(func(core *epoch.Core) (err error) {
+		w.flying, err = core.Seal(clock.Now())
+		if turn := w.flying; err == nil && turn != nil {
 			// A site may know the entry before this process knows that it is written.
-			writing.sealed.Set(turn.Number, turn.Text)
-			writing.digests.add(&writing.sealed, turn.First > 0)
+			w.sealed.Set(turn.Number, turn.Text)
+			w.digests.add(&w.sealed, turn.First > 0)
 		}
 		return err
 	})
-	if turn := writing.flying; err == nil && turn != nil {
-		writing.retry = 0 // The next turn has room.
-		go func() { writing.landed <- writing.send(ctx, turn) }()
+	if turn := w.flying; err == nil && turn != nil {
+		w.retry = 0 // The next turn has room.
+		go func() { w.landed <- w.send(ctx, turn) }()
 	}
 	return err
 }
 
 // send writes a turn, and tries again until it is known what became of it.
-func (primary *Primary) send(ctx context.Context, turn *epoch.Turn) error {
+func (p *Primary) send(ctx context.Context, turn *epoch.Turn) error {
 	write := &engine.Write{Number: turn.Number, Text: turn.Text, Absent: turn.Absent, Epoch: turn.Epoch, First: turn.First,
 		Last: turn.Last, Since: turn.Since}
 	for {
-		err := primary.config.Engine.Write(ctx, write)
+		err := p.config.Engine.Write(ctx, write)
+		if err == nil {
+			p.counts.full.Store(false)
+			return nil
+		}
 		if !engine.IsAway(err) {
-			atomic.StoreInt64(&primary.counts.Full, 0)
-			return err
+			p.counts.full.Store(false)
+			return fmt.Errorf("write the entry %d: %w", turn.Number, err)
 		}
 		if engine.IsFull(err) {
-			atomic.StoreInt64(&primary.counts.Full, 1)
+			p.counts.full.Store(true)
 		}
-		primary.config.Log.Warn("engine-away", "why", err)
+		p.config.Log.Warn("engine-away", "why", err)
 		clock.Pause(ctx, afterFailure)
 		if ctx.Err() != nil {
-			return err
+			return fmt.Errorf("write the entry %d: %w", turn.Number, err)
 		}
 	}
 }
 
 // land tells the answers of a turn that is written.
-func (writing *writing) land(err error) error {
-	turn := writing.flying
+func (w *writing) land(err error) error {
+	turn := w.flying
 	if err != nil {
 		return err
 	}
-	writing.flying = nil
-	writing.mark = writing.sealed
-	atomic.AddInt64(&writing.counts.Entries, 1)
-	atomic.AddInt64(&writing.counts.Bytes, int64(len(turn.Text)))
-	writing.with(func(core *epoch.Core) error {
+	w.flying = nil
+	w.follower.Mark = w.sealed
+	w.counts.entries.Add(1)
+	w.counts.bytes.Add(int64(len(turn.Text)))
+	w.see(func(core *epoch.Core) {
 		core.Written(turn.Number)
-		writing.markAt = clock.Now()
-		return nil
+		w.markAt = clock.Now()
 	})
 	if turn.First > 0 {
-		writing.noteEpoch()
-		writing.config.Log.Info("epoch", "epoch", turn.Epoch, "entry", turn.Number)
+		w.noteEpoch()
+		w.config.Log.Info("epoch", "epoch", turn.Epoch, "entry", turn.Number)
 	}
-	writing.calls.tell(turn.Answers)
-	atomic.AddInt64(&writing.counts.Answers, int64(len(turn.Answers)))
+	w.calls.tell(turn.Answers)
+	w.counts.answers.Add(int64(len(turn.Answers)))
 	return nil
 }
 
 // goes counts a site as gone that had no key. The name "" ends a look.
-func (writing *writing) goes(site string) error {
+func (w *writing) goes(site string) error {
 	if site == "" {
-		writing.leaving.isUnder = false
+		w.leaving.isUnder = false
 		return nil
 	}
-	return writing.with(func(core *epoch.Core) error { return core.Gone(site) })
+	return w.with(func(core *epoch.Core) error { return core.Gone(site) })
 }

@@ -7,7 +7,7 @@ import (
 	"sync"
 	"time"
 
-	"ordup-node/internal/logs"
+	"ordup.dev/node/internal/logs"
 )
 
 // lookAfter is how often it is looked at most whether a file has changed.
@@ -15,9 +15,11 @@ const lookAfter = 2 * time.Second
 
 // A Value is what some files have. Goroutines may share it.
 type Value[T any] struct {
-	files  []string
-	read   func() (T, error)
-	log    *logs.Log
+	files []string
+	read  func() (T, error)
+	log   *logs.Log
+
+	// What stands below lock is under it.
 	lock   sync.Mutex
 	value  T
 	was    []os.FileInfo
@@ -28,32 +30,33 @@ type Value[T any] struct {
 func New[T any](log *logs.Log, read func() (T, error), files ...string) (*Value[T], error) {
 	value := &Value[T]{files: files, read: read, log: log, was: infosOf(files), looked: time.Now()}
 	var err error
-	if value.value, err = read(); err != nil {
+	value.value, err = read()
+	if err != nil {
 		return nil, err
 	}
 	return value, nil
 }
 
 // Now gives what the files had when they could be read last.
-func (value *Value[T]) Now() T {
-	value.lock.Lock()
-	defer value.lock.Unlock()
-	if time.Since(value.looked) < lookAfter {
-		return value.value
+func (v *Value[T]) Now() T {
+	v.lock.Lock()
+	defer v.lock.Unlock()
+	if time.Since(v.looked) < lookAfter {
+		return v.value
 	}
-	value.looked = time.Now()
-	infos := infosOf(value.files)
-	if areSame(value.was, infos) {
-		return value.value
+	v.looked = time.Now()
+	infos := infosOf(v.files)
+	if areSame(v.was, infos) {
+		return v.value
 	}
-	read, err := value.read()
+	read, err := v.read()
 	if err != nil {
-		value.log.Warn("not-read-again", "file", value.files[0], "why", err)
-		return value.value
+		v.log.Warn("not-read-again", "file", v.files[0], "why", err)
+		return v.value
 	}
-	value.log.Info("read-again", "file", value.files[0])
-	value.value, value.was = read, infos
-	return value.value
+	v.log.Info("read-again", "file", v.files[0])
+	v.value, v.was = read, infos
+	return v.value
 }
 
 // infosOf says what there is of each file. Of one that is not there it is nil.

@@ -3,7 +3,7 @@ package reload
 import (
 	"crypto/tls"
 
-	"ordup-node/internal/logs"
+	"ordup.dev/node/internal/logs"
 )
 
 // Pair gives a certificate and its key, of files in PEM.

@@ -20,7 +20,7 @@ import (
 	"strconv"
 	"strings"
 
-	"ordup-node/internal/exit"
+	"ordup.dev/node/internal/exit"
 )
 
 // Format is the version of the format of entries that this package writes, and the only one that it reads.
@@ -52,46 +52,46 @@ type Entry struct {
 // A FormatError says that an entry is of another version of the format: a later program wrote it.
 type FormatError struct{ Format string }
 
-func (err *FormatError) Error() string {
-	return fmt.Sprintf("an entry has the format %s, and this program reads %d", err.Format, Format)
+func (e *FormatError) Error() string {
+	return fmt.Sprintf("an entry has the format %s, and this program reads %d", e.Format, Format)
 }
 
 // ExitStatus is that of a process which meets it.
 func (*FormatError) ExitStatus() exit.Status { return exit.Words }
 
 // Text is the text of the entry, as the engine keeps it.
-func (entry *Entry) Text() []byte {
-	text := make([]byte, 0, 128+64*len(entry.Steps))
+func (e *Entry) Text() []byte {
+	text := make([]byte, 0, 128+64*len(e.Steps))
 	text = append(text, "ordup-node "...)
 	text = strconv.AppendInt(text, Format, 10)
 	text = append(text, " epoch "...)
-	text = strconv.AppendInt(text, entry.Epoch, 10)
-	text = append(append(text, " ordup "...), entry.Ordup...)
-	text = append(append(text, " writer "...), entry.Writer...)
+	text = strconv.AppendInt(text, e.Epoch, 10)
+	text = append(append(text, " ordup "...), e.Ordup...)
+	text = append(append(text, " writer "...), e.Writer...)
 	text = append(text, '\n')
-	for at := range entry.Steps {
-		text = entry.Steps[at].Append(text)
+	for at := range e.Steps {
+		text = e.Steps[at].Append(text)
 	}
 	return text
 }
 
 // AppendArchive appends the entry as an archive has it: its number and its lines as comments, each with the lines of ordup behind it.
-func (entry *Entry) AppendArchive(to []byte, number int64) []byte {
+func (e *Entry) AppendArchive(to []byte, number int64) []byte {
 	to = append(strconv.AppendInt(append(to, "# entry "...), number, 10), '\n')
-	header := Entry{Epoch: entry.Epoch, Ordup: entry.Ordup, Writer: entry.Writer}
+	header := Entry{Epoch: e.Epoch, Ordup: e.Ordup, Writer: e.Writer}
 	to = append(append(to, "# "...), header.Text()...)
-	for at := range entry.Steps {
-		to = entry.Steps[at].Append(append(to, "# "...))
-		to = entry.Steps[at].AppendLines(to)
+	for at := range e.Steps {
+		to = e.Steps[at].Append(append(to, "# "...))
+		to = e.Steps[at].AppendLines(to)
 	}
 	return to
 }
 
 // Answers are the steps of the entry that are answers.
-func (entry *Entry) Answers() []Step {
-	for at := range entry.Steps {
-		if entry.Steps[at].Kind == Answer {
-			return entry.Steps[at:]
+func (e *Entry) Answers() []Step {
+	for at := range e.Steps {
+		if e.Steps[at].Kind == Answered {
+			return e.Steps[at:]
 		}
 	}
 	return nil
@@ -101,16 +101,16 @@ func (entry *Entry) Answers() []Step {
 type Room int64
 
 // Take takes the room of a step. It is false where there is not so much.
-func (room *Room) Take(step *Step) bool {
+func (r *Room) Take(step *Step) bool {
 	switch step.Kind {
 	case Tell, Gone, Settle:
-		*room -= Room(step.Count)
+		*r -= Room(step.Count)
 	}
-	return *room >= 0
+	return *r >= 0
 }
 
 // Begins is whether the entry begins its epoch.
-func (entry *Entry) Begins() bool { return len(entry.Steps) > 0 && entry.Steps[0].Kind == Begin }
+func (e *Entry) Begins() bool { return len(e.Steps) > 0 && e.Steps[0].Kind == Begin }
 
 // DigestOf stands beside an answer for the changes, or the declarations, that it is of.
 func DigestOf(text string) string {

@@ -13,7 +13,7 @@ const mostWordBytes = 64
 // Parse reads the text of an entry. Any bytes that are none have an error.
 func Parse(text []byte) (*Entry, error) {
 	steps := make([]Step, 0, bytes.Count(text, []byte{'\n'}))
-	entry, err := read(text, func(step Step) { steps = append(steps, step) })
+	entry, err := read(text, func(step *Step) { steps = append(steps, *step) })
 	if err != nil {
 		return nil, err
 	}
@@ -23,12 +23,12 @@ func Parse(text []byte) (*Entry, error) {
 
 // Check has the error that Parse has, and keeps nothing.
 func Check(text []byte) error {
-	_, err := read(text, func(Step) {})
+	_, err := read(text, func(*Step) {})
 	return err
 }
 
 // read reads an entry, and takes its steps one by one.
-func read(text []byte, take func(Step)) (*Entry, error) {
+func read(text []byte, take func(*Step)) (*Entry, error) {
 	if len(text) > 2*MostEntryBytes {
 		return nil, fmt.Errorf("an entry has %d bytes", len(text))
 	}
@@ -40,36 +40,35 @@ func read(text []byte, take func(Step)) (*Entry, error) {
 	if !ended || rest != "" && !strings.HasSuffix(rest, "\n") {
 		return nil, fmt.Errorf("an entry does not end with a line feed")
 	}
-	last := Kind(0)
+	var step Step
 	for room := Room(MostCounted); rest != ""; {
 		var line string
 		line, rest, _ = strings.Cut(rest, "\n")
-		step, isStep := parseStep(line)
-		if !isStep || !fits(last, step.Kind) || !room.Take(&step) {
+		last := step.Kind
+		if !step.parse(line) || !fits(last, step.Kind) || !room.Take(&step) {
 			return nil, fmt.Errorf("%.60q is no line of an entry there", line)
 		}
-		last = step.Kind
-		take(step)
+		take(&step)
 	}
 	return entry, nil
 }
 
 func parseHeader(line string) (*Entry, error) {
-	words := words{rest: line}
-	if words.next() != "ordup-node" {
+	w := words{rest: line}
+	if w.next() != "ordup-node" {
 		return nil, fmt.Errorf("%.60q does not begin an entry", line)
 	}
-	if format := words.next(); format != strconv.Itoa(Format) {
+	if format := w.next(); format != strconv.Itoa(Format) {
 		return nil, &FormatError{fmt.Sprintf("%.20q", format)}
 	}
 	entry := &Entry{}
-	words.skip("epoch")
-	entry.Epoch = words.number(1, MostNumber)
-	words.skip("ordup")
-	entry.Ordup = words.word(mostWordBytes)
-	words.skip("writer")
-	entry.Writer = words.word(MostWriterBytes)
-	if words.bad || !words.over {
+	w.skip("epoch")
+	entry.Epoch = w.number(1, MostNumber)
+	w.skip("ordup")
+	entry.Ordup = w.word(mostWordBytes)
+	w.skip("writer")
+	entry.Writer = w.word(MostWriterBytes)
+	if w.bad || !w.over {
 		return nil, fmt.Errorf("%.60q does not begin an entry", line)
 	}
 	return entry, nil
@@ -85,45 +84,48 @@ func fits(last, kind Kind) bool {
 		return last == Begin || last == Declare
 	case Want:
 		return last == Wish || last == Want
-	case Answer:
+	case Answered:
 		return true
 	default:
-		return last != Answer
+		return last != Answered
 	}
 }
 
-func parseStep(line string) (Step, bool) {
-	words := words{rest: line}
-	step := Step{Kind: kindOf(words.next())}
-	switch step.Kind {
+// parse reads the line of a step. It is false where there is none.
+func (s *Step) parse(line string) bool {
+	w := words{rest: line}
+	*s = Step{Kind: kindOf(w.next())}
+	switch s.Kind {
 	case Begin, Wish:
-		step.Settings = words.settings()
+		s.Settings = w.settings()
 	case Declare, Want:
-		step.Text = words.text()
+		s.Words = w.text()
 	case Known:
-		step.Name, step.Number, step.Digest = words.client(), words.number(1, MostNumber), words.word(mostWordBytes)
-		step.Count, step.Age, step.Text = words.number(1, MostNumber), words.age(), words.text()
+		s.Client, s.Number, s.Digest = w.client(), w.number(1, MostNumber), w.word(mostWordBytes)
+		s.Epoch, s.Age, s.Answer = w.number(1, MostNumber), w.age(), w.answer()
 	case Tell:
-		step.Name, step.Count = words.site(), words.number(1, MostCounted)
+		s.Site, s.Count = w.site(), w.number(1, MostCounted)
 	case Gone:
-		step.Name, step.Count = words.site(), words.number(0, MostCounted)
+		s.Site, s.Count = w.site(), w.number(0, MostCounted)
 	case Ask:
-		step.Name, step.Number, step.Text = words.client(), words.number(1, MostNumber), words.text()
-	case Settle, Elapsed:
-		step.Count = words.number(1, MostCounted)
+		s.Client, s.Number, s.Words = w.client(), w.number(1, MostNumber), w.text()
+	case Settle:
+		s.Count = w.number(1, MostCounted)
+	case Elapsed:
+		s.Seconds = w.number(1, MostCounted)
 	case Leave:
-		step.Name = words.site()
-	case Answer:
-		step.Name, step.Number = words.client(), words.number(1, MostNumber)
-		step.Digest, step.Text = words.word(mostWordBytes), words.text()
+		s.Site = w.site()
+	case Answered:
+		s.Client, s.Number = w.client(), w.number(1, MostNumber)
+		s.Digest, s.Answer = w.word(mostWordBytes), w.answer()
 	default:
-		return step, false
+		return false
 	}
-	return step, !words.bad && words.over
+	return !w.bad && w.over
 }
 
 func kindOf(name string) Kind {
-	for kind := Begin; kind <= Answer; kind++ {
+	for kind := Begin; kind <= Answered; kind++ {
 		if kindNames[kind] == name {
 			return kind
 		}
@@ -138,70 +140,74 @@ type words struct {
 }
 
 // next is the next word, up to one space or the end.
-func (words *words) next() string {
-	words.keep(!words.over)
-	word, rest, goesOn := strings.Cut(words.rest, " ")
-	words.rest, words.over = rest, !goesOn
+func (w *words) next() string {
+	w.keep(!w.over)
+	word, end := w.rest, strings.IndexByte(w.rest, ' ')
+	if end < 0 {
+		w.rest, w.over = "", true
+		return word
+	}
+	w.rest = word[end+1:]
+	return word[:end]
+}
+
+func (w *words) keep(is bool) { w.bad = w.bad || !is }
+
+func (w *words) skip(word string) { w.keep(w.next() == word) }
+
+func (w *words) word(most int) string {
+	word := w.next()
+	w.keep(IsWord(word, most))
 	return word
 }
 
-func (words *words) keep(is bool) { words.bad = words.bad || !is }
-
-func (words *words) skip(word string) { words.keep(words.next() == word) }
-
-func (words *words) word(most int) string {
-	word := words.next()
-	words.keep(IsWord(word, most))
-	return word
-}
-
-func (words *words) client() string {
-	name := words.next()
-	words.keep(IsClient(name))
+func (w *words) client() string {
+	name := w.next()
+	w.keep(IsClient(name))
 	return name
 }
 
-func (words *words) site() string {
-	name := words.next()
-	words.keep(IsName(name))
+func (w *words) site() string {
+	name := w.next()
+	w.keep(IsName(name))
 	return name
 }
 
-func (words *words) number(least, most int64) int64 {
-	word := words.next()
+func (w *words) number(least, most int64) int64 {
+	word := w.next()
 	number, err := strconv.ParseInt(word, 10, 64)
-	words.keep(err == nil && least <= number && number <= most && strconv.FormatInt(number, 10) == word)
+	w.keep(err == nil && least <= number && number <= most && strconv.FormatInt(number, 10) == word)
 	return number
 }
 
 // settings are those of an epoch. Scripts that began before clients were remembered for seconds do not have these.
-func (words *words) settings() *Settings {
-	settings := &Settings{Every: words.number(1, MostCounted), Remembers: words.number(1, MostCounted),
-		Origin: words.word(mostWordBytes), Ordup: words.word(mostWordBytes)}
+func (w *words) settings() *Settings {
+	settings := &Settings{Every: w.number(1, MostCounted), Remembers: w.number(1, MostCounted),
+		Origin: w.word(mostWordBytes), Ordup: w.word(mostWordBytes)}
 	began := &settings.Began
-	began.Every, began.Remembers, began.Origin = words.number(1, MostCounted), words.number(1, MostCounted), words.word(mostWordBytes)
-	if !words.over {
-		settings.Seconds, began.Seconds = words.number(0, MostCounted), words.number(0, MostCounted)
-		words.keep(settings.Seconds+began.Seconds > 0)
+	began.Every, began.Remembers, began.Origin = w.number(1, MostCounted), w.number(1, MostCounted), w.word(mostWordBytes)
+	if !w.over {
+		settings.Seconds, began.Seconds = w.number(0, MostCounted), w.number(0, MostCounted)
+		w.keep(settings.Seconds+began.Seconds > 0)
 	}
 	return settings
 }
 
 // age is the next word if it is a number, and else 0: an answer does not begin with one.
-func (words *words) age() int64 {
-	before := *words
-	age := words.number(1, MostNumber)
-	if words.bad || words.over {
-		*words = before
+func (w *words) age() int64 {
+	before := *w
+	age := w.number(1, MostNumber)
+	if w.bad || w.over {
+		*w = before
 		return 0
 	}
 	return age
 }
 
 // text is the rest of the line.
-func (words *words) text() string {
-	text := words.rest
-	words.keep(!words.over && IsChanges(text))
-	words.rest, words.over = "", true
+func (w *words) text() string {
+	text := w.rest
+	w.keep(!w.over && IsChanges(text))
+	w.rest, w.over = "", true
 	return text
 }

@@ -12,43 +12,42 @@ type Kind uint8
 const (
 	// Begin begins the epoch of its entry: Settings. The steps Declare come after it.
 	Begin Kind = iota + 1
-	// Declare is a line of the declarations: Text.
+	// Declare is a line of the declarations: Words.
 	Declare
-	// Known carries the last answer of a client from the epochs before: Name, Number, Digest, Count (the epoch of the request), Age, where
-	// that is not 0, and Text.
+	// Known carries the last answer of a client from the epochs before: Client, Number, Digest, Epoch, Age, where that is not 0, and Answer.
 	Known
-	// Tell says that a site has applied more updates than it had told: Name, Count.
+	// Tell says that a site has applied more updates than it had told: Site, Count.
 	Tell
-	// Ask is the request of a client: Name, Number, Text (its changes). Its Digest, where it is known, has no place in the line.
+	// Ask is the request of a client: Client, Number, Words (its changes). Its Digest, where it is known, has no place in the line.
 	Ask
 	// Settle asks for acknowledgements: Count.
 	Settle
 	// Wish says what an operator wants of the next epoch: Settings. Where it has Want steps behind it, these are its declarations.
 	Wish
-	// Want is a line of the declarations that are wanted: Text.
+	// Want is a line of the declarations that are wanted: Words.
 	Want
-	// Leave says that a site is taken out, and serves no reader from here on: Name.
+	// Leave says that a site is taken out, and serves no reader from here on: Site.
 	Leave
-	// Gone says that no process has a lease of a site that is taken out, which counts as at the end: Name, Count.
+	// Gone says that no process has a lease of a site that is taken out, which counts as at the end: Site, Count.
 	Gone
-	// Elapsed says that more seconds have passed, by the clock of the writer: Count.
+	// Elapsed says that more seconds have passed, by the clock of the writer: Seconds.
 	Elapsed
-	// Answer is what was decided for a client in this entry: Name, Number, Digest, Text.
-	Answer
+	// Answered is what was decided for a client in this entry: Client, Number, Digest, Answer.
+	Answered
 )
 
 // kindNames are the first words of the lines.
 var kindNames = [...]string{
 	Begin: "begin", Declare: "declare", Known: "known", Tell: "tell", Ask: "ask", Settle: "settle",
-	Wish: "wish", Want: "want", Leave: "leave", Gone: "gone", Elapsed: "elapsed", Answer: "answer",
+	Wish: "wish", Want: "want", Leave: "leave", Gone: "gone", Elapsed: "elapsed", Answered: "answer",
 }
 
 // String is the first word of the line of a step of this kind.
-func (kind Kind) String() string {
-	if int(kind) < len(kindNames) {
-		return kindNames[kind]
+func (k Kind) String() string {
+	if int(k) < len(kindNames) {
+		return kindNames[k]
 	}
-	return "kind " + strconv.Itoa(int(kind))
+	return "kind " + strconv.Itoa(int(k))
 }
 
 // Settings are what all primaries agree on, since the script has them. They are those of an epoch.
@@ -74,84 +73,92 @@ type Began struct {
 
 // A Step is one line of an entry. Which fields it has is said at its kind.
 type Step struct {
-	Kind   Kind
-	Name   string
+	Kind Kind
+	// Of a request: the client, its number, and the digest of its changes.
+	Client string
 	Number int64
 	Digest string
-	Count  int64
-	// Age is how many seconds the request is older than what is carried over.
-	Age      int64
-	Text     string
-	Settings *Settings
+	Site   string
+	// Count is how many times the lines of ordup come for which the step stands.
+	Count int64
+	// Words are those of ordup: a declaration, or the changes of a request.
+	Words  string
+	Answer Answer
+	// Of a request that is carried over: the epoch that took it, and how many seconds it is older than what carries it over.
+	Epoch, Age int64
+	Seconds    int64
+	Settings   *Settings
 }
 
 // Append appends the line of the step, and its line feed.
-func (step *Step) Append(to []byte) []byte {
-	to = append(to, step.Kind.String()...)
+func (s *Step) Append(to []byte) []byte {
+	to = append(to, s.Kind.String()...)
 	word := func(text string) { to = append(append(to, ' '), text...) }
 	number := func(value int64) { to = strconv.AppendInt(append(to, ' '), value, 10) }
-	switch step.Kind {
+	switch s.Kind {
 	case Begin, Wish:
-		to = step.Settings.append(to)
+		to = s.Settings.append(to)
 	case Declare, Want:
-		word(step.Text)
+		word(s.Words)
 	case Known:
-		word(step.Name)
-		number(step.Number)
-		word(step.Digest)
-		number(step.Count)
-		if step.Age != 0 {
-			number(step.Age)
+		word(s.Client)
+		number(s.Number)
+		word(s.Digest)
+		number(s.Epoch)
+		if s.Age != 0 {
+			number(s.Age)
 		}
-		word(step.Text)
+		to = s.Answer.append(append(to, ' '))
 	case Tell, Gone:
-		word(step.Name)
-		number(step.Count)
+		word(s.Site)
+		number(s.Count)
 	case Ask:
-		word(step.Name)
-		number(step.Number)
-		word(step.Text)
-	case Settle, Elapsed:
-		number(step.Count)
+		word(s.Client)
+		number(s.Number)
+		word(s.Words)
+	case Settle:
+		number(s.Count)
+	case Elapsed:
+		number(s.Seconds)
 	case Leave:
-		word(step.Name)
-	case Answer:
-		word(step.Name)
-		number(step.Number)
-		word(step.Digest)
-		word(step.Text)
+		word(s.Site)
+	case Answered:
+		word(s.Client)
+		number(s.Number)
+		word(s.Digest)
+		to = s.Answer.append(append(to, ' '))
 	}
 	return append(to, '\n')
 }
 
 // append appends the settings as words. Those in seconds are there where one is not 0.
-func (settings *Settings) append(to []byte) []byte {
-	began := &settings.Began
-	to = append(to, fmt.Sprintf(" %d %d %s %s %d %d %s", settings.Every, settings.Remembers, settings.Origin, settings.Ordup,
+func (s *Settings) append(to []byte) []byte {
+	began := &s.Began
+	to = append(to, fmt.Sprintf(" %d %d %s %s %d %d %s", s.Every, s.Remembers, s.Origin, s.Ordup,
 		began.Every, began.Remembers, began.Origin)...)
-	if settings.Seconds != 0 || began.Seconds != 0 {
-		to = append(to, fmt.Sprintf(" %d %d", settings.Seconds, began.Seconds)...)
+	if s.Seconds != 0 || began.Seconds != 0 {
+		to = append(to, fmt.Sprintf(" %d %d", s.Seconds, began.Seconds)...)
 	}
 	return to
 }
 
 // AppendLines appends the lines that a store is given for the step. `ordup run` reads the same ones in an archive.
-func (step *Step) AppendLines(to []byte) []byte {
-	switch step.Kind {
+func (s *Step) AppendLines(to []byte) []byte {
+	switch s.Kind {
 	case Declare:
-		to = append(append(to, step.Text...), '\n')
+		to = append(append(to, s.Words...), '\n')
 	case Ask:
-		to = append(append(append(to, "propose "...), step.Text...), '\n')
+		to = append(append(append(to, "propose "...), s.Words...), '\n')
 	case Settle:
-		for count := int64(0); count < step.Count; count++ {
+		for count := int64(0); count < s.Count; count++ {
 			to = append(to, "settle\n"...)
 		}
 	case Tell, Gone:
-		for count := int64(0); count < step.Count; count++ {
-			to = append(append(append(to, "send "...), step.Name...), '\n')
-			to = append(append(append(to, "apply "...), step.Name...), '\n')
+		for count := int64(0); count < s.Count; count++ {
+			to = append(append(append(to, "send "...), s.Site...), '\n')
+			to = append(append(append(to, "apply "...), s.Site...), '\n')
 		}
-		to = append(append(append(to, "report "...), step.Name...), '\n')
+		to = append(append(append(to, "report "...), s.Site...), '\n')
 	}
 	return to
 }

@@ -13,7 +13,8 @@ import (
 	"testing"
 	"time"
 
-	"ordup-node/internal/serve"
+	"ordup.dev/node/internal/script"
+	"ordup.dev/node/internal/serve"
 )
 
 // sent is what a client reads that sends all first, and then reads. Most clients look at no answer where they cannot send.
@@ -50,7 +51,7 @@ func startWithTokens(t *testing.T, writer *writer) string {
 const large, isJSON = 2_000_000, "Content-Type: application/json\r\n"
 
 func TestWhoSendsALargeBodyReadsWhyItIsRefused(t *testing.T) {
-	writer := &writer{text: "ok acked 1 epoch 1"}
+	writer := &writer{answer: script.Answer{Place: 1, Epoch: 1}}
 	address := startWithTokens(t, writer)
 	body := strings.Repeat("x", large)
 	whole := func(line string) func(net.Conn) error {
@@ -83,8 +84,10 @@ func TestWhoSendsALargeBodyReadsWhyItIsRefused(t *testing.T) {
 		{"no path", whole("POST /nowhere"), 405, `{"error":"NoSuchMethod"`},
 		{"an epoch", whole("GET /epoch"), 413, `{"error":"TooLarge"`},
 	} {
-		status, text := sent(t, address, row.send)
-		is(t, row.what, status, text, row.status, row.want)
+		t.Run(row.what, func(t *testing.T) {
+			status, text := sent(t, address, row.send)
+			is(t, row.what, status, text, row.status, row.want)
+		})
 	}
 	if len(writer.asked)+len(writer.wishes)+len(writer.places) > 0 {
 		t.Error(writer.asked, writer.wishes, writer.places)
@@ -132,7 +135,7 @@ func TestWhoAsksBeforeTheBodyIsToldBefore(t *testing.T) {
 
 // A body that has no end is read no longer than two seconds, and one that is slow or cut has its answer.
 func TestABodyWithoutAnEnd(t *testing.T) {
-	writer := &writer{text: "ok acked 1 epoch 1"}
+	writer := &writer{answer: script.Answer{Place: 1, Epoch: 1}}
 	address := startPrimary(t, nil, writer)
 	for _, pause := range []time.Duration{0, 10 * time.Millisecond} {
 		pause := pause

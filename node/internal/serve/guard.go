@@ -10,10 +10,10 @@ import (
 	"os"
 	"strings"
 
-	"ordup-node/internal/logs"
-	"ordup-node/internal/reload"
-	"ordup-node/internal/script"
-	"ordup-node/internal/wire"
+	"ordup.dev/node/internal/logs"
+	"ordup.dev/node/internal/reload"
+	"ordup.dev/node/internal/script"
+	"ordup.dev/node/internal/wire"
 )
 
 // A Role is who may ask something.
@@ -57,31 +57,31 @@ type known struct {
 
 // Load has a role show one of the tokens of a file, which is read again when it changes. So a token is replaced by a file that has both for
 // a while.
-func (guard *Guard) Load(role Role, file string) error {
-	if guard.tokens == nil {
-		guard.tokens, guard.isOpen = map[Role]*reload.Value[[]known]{}, map[Role]bool{}
+func (g *Guard) Load(role Role, file string) error {
+	if g.tokens == nil {
+		g.tokens, g.isOpen = map[Role]*reload.Value[[]known]{}, map[Role]bool{}
 	}
 	if file == Open {
-		guard.isOpen[role] = true
+		g.isOpen[role] = true
 		return nil
 	}
-	tokens, err := reload.New(guard.Log, func() ([]known, error) { return knownOf(role, file) }, file)
+	tokens, err := reload.New(g.Log, func() ([]known, error) { return knownOf(role, file) }, file)
 	if err != nil {
 		return err
 	}
-	guard.tokens[role] = tokens
+	g.tokens[role] = tokens
 	if info, err := os.Stat(file); err == nil && info.Mode().Perm()&0o007 != 0 {
-		guard.Log.Warn("tokens-are-for-everybody", "file", file, "mode", info.Mode().Perm())
+		g.Log.Warn("tokens-are-for-everybody", "file", file, "mode", info.Mode().Perm())
 	}
 	return nil
 }
 
 // Asks says whether a role is open, asks for tokens, or is closed, so that nobody has it.
-func (guard *Guard) Asks(role Role) string {
+func (g *Guard) Asks(role Role) string {
 	switch {
-	case guard == nil || len(guard.tokens) == 0 || guard.isOpen[role]:
+	case g == nil || len(g.tokens) == 0 || g.isOpen[role]:
 		return Open
-	case guard.tokens[role] == nil:
+	case g.tokens[role] == nil:
 		return closed
 	}
 	return byToken
@@ -130,9 +130,10 @@ func TokensOf(file string) ([]Token, error) {
 }
 
 // admit is why a request is not taken, or nil. Site is the one for whose places alone its token is, if it names one.
-func (guard *Guard) admit(role Role, asked *http.Request) (site string, err error) {
+func (g *Guard) admit(role Role, asked *http.Request) (site string, err error) {
 	if role != Anybody {
-		if site, err = guard.find(role, asked); err != nil {
+		site, err = g.find(role, asked)
+		if err != nil {
 			return "", err
 		}
 	}
@@ -141,8 +142,8 @@ func (guard *Guard) admit(role Role, asked *http.Request) (site string, err erro
 
 // find gives the site of the token that a request shows, if it is one of a role. The digests are compared, all of them and each in the same
 // time, so that the time tells nothing of the tokens. A password is kept by browsers, and sent for any page: so it is for what is read.
-func (guard *Guard) find(role Role, asked *http.Request) (site string, err error) {
-	switch guard.Asks(role) {
+func (g *Guard) find(role Role, asked *http.Request) (site string, err error) {
+	switch g.Asks(role) {
 	case Open:
 		return "", nil
 	case closed:
@@ -154,7 +155,7 @@ func (guard *Guard) find(role Role, asked *http.Request) (site string, err error
 	} else if !strings.EqualFold(kind, "bearer") {
 		return "", errNoToken
 	}
-	sum, found, tokens := sha256.Sum256([]byte(given)), -1, guard.tokens[role].Now()
+	sum, found, tokens := sha256.Sum256([]byte(given)), -1, g.tokens[role].Now()
 	for at, token := range tokens {
 		found = subtle.ConstantTimeSelect(subtle.ConstantTimeCompare(sum[:], token.digest[:]), at, found)
 	}
@@ -185,15 +186,13 @@ func isLook(asked *http.Request) bool {
 }
 
 var (
-	errNoToken = &wire.Error{Status: http.StatusUnauthorized, Name: "NoToken",
-		Message: "the token is missing, or not one of those who may ask this"}
-	errClosed = &wire.Error{Status: http.StatusForbidden, Name: "Closed",
-		Message: "this process has tokens of others, and none of those who may ask this"}
-	errOtherOrigin = &wire.Error{Status: http.StatusForbidden, Name: "OtherOrigin", Message: "this is not for pages in a browser"}
-	errNotJSON     = &wire.Error{Status: http.StatusUnsupportedMediaType, Name: "NotJSON", Message: "the header Content-Type is not application/json"}
+	errNoToken     = wire.NewError(wire.NoToken, "the token is missing, or not one of those who may ask this")
+	errClosed      = wire.NewError(wire.Closed, "this process has tokens of others, and none of those who may ask this")
+	errOtherOrigin = wire.NewError(wire.OtherOrigin, "this is not for pages in a browser")
+	errNotJSON     = wire.NewError(wire.NotJSON, "the header Content-Type is not application/json")
 )
 
 // otherSite is the error of a token that tells for another site.
 func otherSite(own string) error {
-	return &wire.Error{Status: http.StatusForbidden, Name: "OtherSite", Message: "the token is of the site " + own + " alone"}
+	return wire.NewError(wire.OtherSite, "the token is of the site "+own+" alone")
 }

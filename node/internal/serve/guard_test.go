@@ -10,10 +10,11 @@ import (
 	"strings"
 	"testing"
 
-	"ordup-node/internal/client"
-	"ordup-node/internal/fleet"
-	"ordup-node/internal/logs"
-	"ordup-node/internal/serve"
+	"ordup.dev/node/internal/client"
+	"ordup.dev/node/internal/fleet"
+	"ordup.dev/node/internal/logs"
+	"ordup.dev/node/internal/script"
+	"ordup.dev/node/internal/serve"
 )
 
 func tokens(t *testing.T, text string) string {
@@ -26,7 +27,7 @@ func tokens(t *testing.T, text string) string {
 }
 
 func TestEachRoleHasItsTokens(t *testing.T) {
-	guard, writer := &serve.Guard{}, &writer{text: "ok acked 1 epoch 1"}
+	guard, writer := &serve.Guard{}, &writer{answer: script.Answer{Place: 1, Epoch: 1}}
 	for role, text := range map[serve.Role]string{serve.Clients: "client-token-0001\n", serve.Sites: "site-token-00001\n",
 		serve.Operators: "# old and new\noperator-token-1\noperator-token-2\n"} {
 		if err := guard.Load(role, tokens(t, text)); err != nil {
@@ -85,7 +86,7 @@ func TestAFileOfTokensThatAllReadIsTold(t *testing.T) {
 
 // A browser keeps a password, and sends it for any page. So it is for what is read.
 func TestAPasswordIsForWhatIsRead(t *testing.T) {
-	guard, writer := &serve.Guard{}, &writer{text: "ok acked 1 epoch 1"}
+	guard, writer := &serve.Guard{}, &writer{answer: script.Answer{Place: 1, Epoch: 1}}
 	if err := guard.Load(serve.Operators, tokens(t, "operator-token-1\n")); err != nil {
 		t.Fatal(err)
 	}
@@ -104,7 +105,7 @@ func TestAPasswordIsForWhatIsRead(t *testing.T) {
 
 // A page of any origin may have a browser send what needs no header of its own. None of that changes something, with tokens or without.
 func TestNoPageInABrowserChangesSomething(t *testing.T) {
-	writer := &writer{text: "ok acked 1 epoch 1"}
+	writer := &writer{answer: script.Answer{Place: 1, Epoch: 1}}
 	address := startPrimary(t, nil, writer)
 	place := `{"site":"north","member":"north","epoch":1,"applied":1,"entry":1}`
 	for path, body := range map[string]string{"/update": good, "/next": `{"from":1}`, "/place": place} {
@@ -122,8 +123,10 @@ func TestNoPageInABrowserChangesSomething(t *testing.T) {
 			{"application/json", address, 403, "OtherOrigin"},
 			{"text/plain", "https://evil.example", 403, "OtherOrigin"},
 		} {
-			status, text := ask(t, "POST", address+path, body, "Content-Type", row.kind, "Origin", row.origin)
-			is(t, path+row.kind+row.origin, status, text, row.status, `"error":"`+row.want+`"`)
+			t.Run(path+" "+row.kind+" "+row.origin, func(t *testing.T) {
+				status, text := ask(t, "POST", address+path, body, "Content-Type", row.kind, "Origin", row.origin)
+				is(t, path+row.kind+row.origin, status, text, row.status, `"error":"`+row.want+`"`)
+			})
 		}
 	}
 	if len(writer.asked)+len(writer.places)+len(writer.wishes) > 0 {
@@ -144,25 +147,27 @@ func TestARoleWithoutTokensIsClosed(t *testing.T) {
 		{[]serve.Role{serve.Operators}, 401, 403, 200, 404, 200},
 		{[]serve.Role{serve.Sites, serve.Operators}, 401, 200, 200, 404, 200},
 	} {
-		guard := &serve.Guard{}
-		if err := guard.Load(serve.Clients, tokens(t, "client-token-0001\n")); err != nil {
-			t.Fatal(err)
-		}
-		for _, role := range row.open {
-			if err := guard.Load(role, serve.Open); err != nil {
+		t.Run(fmt.Sprint("open to ", row.open), func(t *testing.T) {
+			guard := &serve.Guard{}
+			if err := guard.Load(serve.Clients, tokens(t, "client-token-0001\n")); err != nil {
 				t.Fatal(err)
 			}
-		}
-		address := startPrimary(t, guard, &writer{text: "ok acked 1 epoch 1"})
-		for _, call := range []struct {
-			method, path, body string
-			want               int
-		}{{"POST", "/update", good, row.update}, {"POST", "/place", place, row.place}, {"POST", "/next", `{"from":1}`, row.next},
-			{"GET", "/metrics", "", row.look}, {"GET", "/healthz", "", row.healthz}} {
-			if status, text := ask(t, call.method, address+call.path, call.body); status != call.want {
-				t.Error(row.open, call.path, status, text)
+			for _, role := range row.open {
+				if err := guard.Load(role, serve.Open); err != nil {
+					t.Fatal(err)
+				}
 			}
-		}
+			address := startPrimary(t, guard, &writer{answer: script.Answer{Place: 1, Epoch: 1}})
+			for _, call := range []struct {
+				method, path, body string
+				want               int
+			}{{"POST", "/update", good, row.update}, {"POST", "/place", place, row.place}, {"POST", "/next", `{"from":1}`, row.next},
+				{"GET", "/metrics", "", row.look}, {"GET", "/healthz", "", row.healthz}} {
+				if status, text := ask(t, call.method, address+call.path, call.body); status != call.want {
+					t.Error(row.open, call.path, status, text)
+				}
+			}
+		})
 	}
 	if asks := (&serve.Guard{}).Asks(serve.Sites); asks != serve.Open {
 		t.Error(asks)
@@ -201,10 +206,12 @@ func TestATokenOfASiteTellsForItAlone(t *testing.T) {
 		{other, "token-of-far-0001", "far", "west", 403},
 		{other, "token-of-any-site", "far", "west", 200},
 	} {
-		body := fmt.Sprintf(`{"site":%q,"member":%q,"epoch":1,"applied":1,"entry":1}`, row.site, row.member)
-		if status, text := ask(t, "POST", row.address+"/place", body, "Authorization", "Bearer "+row.token); status != row.status {
-			t.Error(row, status, text)
-		}
+		t.Run(row.token+" "+row.site+" "+row.member, func(t *testing.T) {
+			body := fmt.Sprintf(`{"site":%q,"member":%q,"epoch":1,"applied":1,"entry":1}`, row.site, row.member)
+			if status, text := ask(t, "POST", row.address+"/place", body, "Authorization", "Bearer "+row.token); status != row.status {
+				t.Error(row, status, text)
+			}
+		})
 	}
 	if len(writer.places) != 3 { // The fleet told once, when both had.
 		t.Error(writer.places)

@@ -6,7 +6,7 @@ import (
 	"testing"
 	"time"
 
-	"ordup-node/internal/serve"
+	"ordup.dev/node/internal/serve"
 )
 
 // Who ends is well and not ready, and answers what comes by then.

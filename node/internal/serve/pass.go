@@ -9,8 +9,8 @@ import (
 	"strings"
 	"time"
 
-	"ordup-node/internal/client"
-	"ordup-node/internal/wire"
+	"ordup.dev/node/internal/client"
+	"ordup.dev/node/internal/wire"
 )
 
 // A Passer passes requests on to another primary.
@@ -25,8 +25,8 @@ func NewPasser(own string, secure *tls.Config) *Passer {
 }
 
 // on passes a request on, and reads the answer. An answer that is an error is a *wire.Error.
-func (pass *Passer) on(ctx context.Context, asked *request, address string, to interface{}) error {
-	if address == pass.own || !strings.HasPrefix(address, schemeOf(pass.own)) {
+func (p *Passer) on(ctx context.Context, asked *request, address string, to any) error {
+	if address == p.own || !strings.HasPrefix(address, schemeOf(p.own)) {
 		return fmt.Errorf("nothing is passed on to %s", address)
 	}
 	url := address + asked.URL.Path
@@ -43,7 +43,7 @@ func (pass *Passer) on(ctx context.Context, asked *request, address string, to i
 			passed.Header.Set(name, value)
 		}
 	}
-	return client.Answer(pass.http, passed, to)
+	return client.Answer(p.http, passed, to)
 }
 
 // queryOf is the query with a wait that ends before the one here does. So who knows why there is no answer is in time to say so.

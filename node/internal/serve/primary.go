@@ -8,15 +8,15 @@ import (
 	"strings"
 	"time"
 
-	"ordup-node/internal/epoch"
-	"ordup-node/internal/primary"
-	"ordup-node/internal/script"
-	"ordup-node/internal/wire"
+	"ordup.dev/node/internal/epoch"
+	"ordup.dev/node/internal/primary"
+	"ordup.dev/node/internal/script"
+	"ordup.dev/node/internal/wire"
 )
 
 // A Writer is what is asked of a primary.
 type Writer interface {
-	Submit(ctx context.Context, request epoch.Request) (primary.Answer, error)
+	Submit(ctx context.Context, request epoch.Request) (script.Answer, error)
 	Tell(ctx context.Context, place epoch.Place) error
 	Next(ctx context.Context, wish epoch.Wish) (int64, error)
 	Status() primary.Status
@@ -45,7 +45,7 @@ func NewPrimary(config Config, writer Writer, pass *Passer, waited func(time.Dur
 	return served
 }
 
-func (served *Primary) update(ctx context.Context, asked *request) (interface{}, error) {
+func (p *Primary) update(ctx context.Context, asked *request) (any, error) {
 	var update wire.Update
 	if err := asked.read(&update); err != nil {
 		return nil, err
@@ -57,16 +57,16 @@ func (served *Primary) update(ctx context.Context, asked *request) (interface{},
 	}
 	request := epoch.Request{Client: update.Client, Number: update.Number, Changes: strings.Join(update.Changes, " ")}
 	began := time.Now()
-	answer, err := served.writer.Submit(ctx, request)
+	answer, err := p.writer.Submit(ctx, request)
 	if err != nil {
 		var acked wire.Acked
-		return served.orPassed(ctx, asked, err, &acked)
+		return p.orPassed(ctx, asked, err, &acked)
 	}
-	served.waited(time.Since(began))
-	return wire.AckedOf(request, answer.Text)
+	p.waited(time.Since(began))
+	return ackedOf(request, answer)
 }
 
-func (served *Primary) place(ctx context.Context, asked *request) (interface{}, error) {
+func (p *Primary) place(ctx context.Context, asked *request) (any, error) {
 	place, err := placeOf(asked)
 	if err != nil {
 		return nil, err
@@ -77,8 +77,8 @@ func (served *Primary) place(ctx context.Context, asked *request) (interface{}, 
 	if place.Member != place.Site {
 		return nil, fmt.Errorf("%w: a site of a fleet tells the process of the fleet", epoch.ErrNoSite)
 	}
-	if err = served.writer.Tell(ctx, place); err != nil {
-		return served.orPassed(ctx, asked, err, &wire.Done{})
+	if err = p.writer.Tell(ctx, place); err != nil {
+		return p.orPassed(ctx, asked, err, &wire.Done{})
 	}
 	return wire.Done{}, nil
 }
@@ -95,7 +95,7 @@ func placeOf(asked *request) (epoch.Place, error) {
 	return epoch.Place(place), nil
 }
 
-func (served *Primary) next(ctx context.Context, asked *request) (interface{}, error) {
+func (p *Primary) next(ctx context.Context, asked *request) (any, error) {
 	var next wire.Next
 	if err := asked.read(&next); err != nil {
 		return nil, err
@@ -105,22 +105,22 @@ func (served *Primary) next(ctx context.Context, asked *request) (interface{}, e
 	}
 	wish := epoch.Wish{From: next.From, Declarations: epoch.Declarations(next.Declarations), Replaces: next.Replaces,
 		Settings: script.Settings{Every: next.Every, Remembers: next.Remembers, Seconds: next.RemembersSeconds, Ordup: next.Ordup}}
-	begun, err := served.writer.Next(ctx, wish)
+	begun, err := p.writer.Next(ctx, wish)
 	if err != nil {
-		value, err := served.orPassed(ctx, asked, err, &wire.Begun{})
+		value, err := p.orPassed(ctx, asked, err, &wire.Begun{})
 		if err != nil {
-			err = wire.ErrorOf(err, "NoWish", http.StatusUnprocessableEntity)
+			err = ErrorOf(err, wire.NoWish)
 		}
 		return value, err
 	}
 	return wire.Begun{Epoch: begun}, nil
 }
 
-func (served *Primary) epoch(ctx context.Context, asked *request) (interface{}, error) {
-	status := served.writer.Status()
+func (p *Primary) epoch(ctx context.Context, asked *request) (any, error) {
+	status := p.writer.Status()
 	switch {
 	case !status.Writes:
-		return served.orPassed(ctx, asked, &primary.NotWriterError{Address: status.Writer}, &wire.Begun{})
+		return p.orPassed(ctx, asked, &primary.NotWriterError{Address: status.Writer}, &wire.Begun{})
 	case status.Lease == 0:
 		return nil, &primary.NotWriterError{}
 	}
@@ -128,16 +128,16 @@ func (served *Primary) epoch(ctx context.Context, asked *request) (interface{}, 
 }
 
 // orPassed passes a request on to the primary that writes, where this one does not. Else, and where that cannot be, it gives the error.
-func (served *Primary) orPassed(ctx context.Context, asked *request, err error, to interface{}) (interface{}, error) {
+func (p *Primary) orPassed(ctx context.Context, asked *request, err error, to any) (any, error) {
 	var other *primary.NotWriterError
 	if !errors.As(err, &other) || other.Address == "" {
 		return nil, err
 	}
 	asked.header.Set(wire.WriterHeader, other.Address)
-	if served.pass == nil || asked.Header.Get(wire.PassedHeader) != "" {
+	if p.pass == nil || asked.Header.Get(wire.PassedHeader) != "" {
 		return nil, err
 	}
-	if failure := served.pass.on(ctx, asked, other.Address, to); failure != nil {
+	if failure := p.pass.on(ctx, asked, other.Address, to); failure != nil {
 		var told *wire.Error
 		if errors.As(failure, &told) {
 			return nil, told

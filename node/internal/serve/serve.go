@@ -13,8 +13,8 @@ import (
 	"sync/atomic"
 	"time"
 
-	"ordup-node/internal/listen"
-	"ordup-node/internal/wire"
+	"ordup.dev/node/internal/listen"
+	"ordup.dev/node/internal/wire"
 )
 
 const (
@@ -60,7 +60,7 @@ type route struct {
 	// Words are those that may stand behind the `?`.
 	words []string
 	// Answer gives what is written as JSON.
-	answer func(ctx context.Context, asked *request) (interface{}, error)
+	answer func(ctx context.Context, asked *request) (any, error)
 }
 
 // A request is one that was read.
@@ -75,45 +75,48 @@ type request struct {
 }
 
 // A room counts what is under way, up to a limit.
-type room struct{ most, count int64 }
+type room struct {
+	most  int64
+	count atomic.Int64
+}
 
-func (room *room) enter() bool {
-	if atomic.AddInt64(&room.count, 1) <= room.most {
+func (r *room) enter() bool {
+	if r.count.Add(1) <= r.most {
 		return true
 	}
-	room.leave()
+	r.leave()
 	return false
 }
 
-func (room *room) leave() { atomic.AddInt64(&room.count, -1) }
+func (r *room) leave() { r.count.Add(-1) }
 
 func newServer(config Config) *server {
 	server := &server{Config: config, paths: http.NewServeMux()}
 	// Nobody takes the room of health, so there is no limit, and that of readiness is its own.
 	health, looks := &room{most: math.MaxInt64}, &room{most: mostLooks}
-	server.plain("/healthz", Anybody, health, http.HandlerFunc(func(to http.ResponseWriter, _ *http.Request) { to.Write([]byte("ok\n")) }))
-	server.plain("/readyz", Anybody, &room{most: mostLooks}, http.HandlerFunc(server.ready))
-	server.plain("/metrics", Operators, looks, config.Numbers)
-	server.plain("/", Operators, looks, exactly("/", config.Page))
+	server.plain(wire.HealthPath, Anybody, health, http.HandlerFunc(func(to http.ResponseWriter, _ *http.Request) { to.Write([]byte("ok\n")) }))
+	server.plain(wire.ReadyPath, Anybody, &room{most: mostLooks}, http.HandlerFunc(server.ready))
+	server.plain(wire.NumbersPath, Operators, looks, config.Numbers)
+	server.plain(wire.PagePath, Operators, looks, exactly(wire.PagePath, config.Page))
 	return server
 }
 
 // ServeHTTP answers a request.
-func (server *server) ServeHTTP(to http.ResponseWriter, asked *http.Request) {
+func (s *server) ServeHTTP(to http.ResponseWriter, asked *http.Request) {
 	to.Header().Set("X-Content-Type-Options", "nosniff")
-	server.paths.ServeHTTP(to, asked)
+	s.paths.ServeHTTP(to, asked)
 }
 
 // End has whoever balances requests send no more of them here, while those that are under way are answered.
-func (server *server) End() { server.ends.Store(true) }
+func (s *server) End() { s.ends.Store(true) }
 
 // Look asks whether the process is ready.
-func (server *server) Look() { server.Ready() }
+func (s *server) Look() { s.Ready() }
 
-func (server *server) ready(to http.ResponseWriter, _ *http.Request) {
+func (s *server) ready(to http.ResponseWriter, _ *http.Request) {
 	err := errEnds
-	if !server.ends.Load() {
-		err = server.Ready()
+	if !s.ends.Load() {
+		err = s.Ready()
 	}
 	if err != nil {
 		http.Error(to, err.Error(), http.StatusServiceUnavailable)
@@ -128,7 +131,7 @@ var errEnds = errors.New("the process ends")
 func exactly(path string, handler http.Handler) http.Handler {
 	return http.HandlerFunc(func(to http.ResponseWriter, asked *http.Request) {
 		if asked.URL.Path != path || handler == nil {
-			fail(to, asked, &wire.Error{Status: http.StatusNotFound, Name: "NoSuchPath", Message: "there is no such path"})
+			fail(to, asked, wire.NewError(wire.NoSuchPath, "there is no such path"))
 			return
 		}
 		handler.ServeHTTP(to, asked)
@@ -136,14 +139,14 @@ func exactly(path string, handler http.Handler) http.Handler {
 }
 
 // plain answers by a handler that writes the answer itself.
-func (server *server) plain(path string, role Role, room *room, handler http.Handler) {
-	server.paths.HandleFunc(path, func(to http.ResponseWriter, asked *http.Request) {
+func (s *server) plain(path string, role Role, room *room, handler http.Handler) {
+	s.paths.HandleFunc(path, func(to http.ResponseWriter, asked *http.Request) {
 		listen.Hurry(asked)
 		defer listen.Begin(asked)()
 		if !isLook(asked) {
 			to.Header().Set("Allow", http.MethodGet)
 			fail(to, asked, errMethod)
-		} else if _, err := server.Guard.admit(role, asked); err != nil {
+		} else if _, err := s.Guard.admit(role, asked); err != nil {
 			fail(to, asked, err)
 		} else if !room.enter() {
 			fail(to, asked, errBusy)
@@ -154,12 +157,12 @@ func (server *server) plain(path string, role Role, room *room, handler http.Han
 	})
 }
 
-var errBusy = &wire.Error{Status: http.StatusServiceUnavailable, Name: "Busy", Message: "too many requests are under way"}
+var errBusy = wire.NewError(wire.Busy, "too many requests are under way")
 
 // answers answers a path by a route.
-func (server *server) answers(path string, route route) {
-	server.paths.HandleFunc(path, func(to http.ResponseWriter, asked *http.Request) {
-		value, err := server.answer(to, asked, &route)
+func (s *server) answers(path string, route route) {
+	s.paths.HandleFunc(path, func(to http.ResponseWriter, asked *http.Request) {
+		value, err := s.answer(to, asked, &route)
 		if err != nil {
 			fail(to, asked, err)
 			return
@@ -168,11 +171,11 @@ func (server *server) answers(path string, route route) {
 	})
 }
 
-func (server *server) answer(to http.ResponseWriter, asked *http.Request, route *route) (interface{}, error) {
+func (s *server) answer(to http.ResponseWriter, asked *http.Request, route *route) (any, error) {
 	end := func() {}
 	defer func() { end() }()
 	listen.Hurry(asked)
-	read, wait, err := server.headOf(to, asked, route)
+	read, wait, err := s.headOf(to, asked, route)
 	if err != nil {
 		end = listen.Begin(asked)
 		return nil, err
@@ -202,13 +205,14 @@ func (server *server) answer(to http.ResponseWriter, asked *http.Request, route 
 }
 
 // headOf reads what a request has before its body, and for how long its answer is waited for.
-func (server *server) headOf(to http.ResponseWriter, asked *http.Request, route *route) (read *request, wait time.Duration, err error) {
+func (s *server) headOf(to http.ResponseWriter, asked *http.Request, route *route) (read *request, wait time.Duration, err error) {
 	if asked.Method != route.method {
 		to.Header().Set("Allow", route.method)
 		return nil, 0, errMethod
 	}
 	read = &request{Request: asked, header: to.Header()}
-	if read.site, err = server.Guard.admit(route.role, asked); err == nil {
+	read.site, err = s.Guard.admit(route.role, asked)
+	if err == nil {
 		read.words, err = wordsOf(asked, route.words)
 	}
 	if err == nil {
@@ -221,22 +225,20 @@ func bodyOf(asked *http.Request, most int) ([]byte, error) {
 	body, err := listen.Body(asked, most)
 	switch {
 	case errors.Is(err, listen.ErrTooLarge):
-		return nil, &wire.Error{Status: http.StatusRequestEntityTooLarge, Name: "TooLarge", Message: err.Error()}
+		return nil, wire.NewError(wire.TooLarge, err.Error())
 	case errors.Is(err, listen.ErrTooSlow):
-		return nil, &wire.Error{Status: http.StatusRequestTimeout, Name: "TooSlow", Message: err.Error()}
+		return nil, wire.NewError(wire.TooSlow, err.Error())
 	case err != nil:
 		return nil, malformed(err)
 	}
 	return body, nil
 }
 
-func malformed(err error) error {
-	return &wire.Error{Status: http.StatusBadRequest, Name: "Malformed", Message: err.Error()}
-}
+func malformed(err error) error { return wire.NewError(wire.Malformed, err.Error()) }
 
 // read reads the JSON of a body.
-func (request *request) read(to interface{}) error {
-	if err := wire.Read(bytes.NewReader(request.body), to); err != nil {
+func (r *request) read(to any) error {
+	if err := wire.Read(bytes.NewReader(r.body), to); err != nil {
 		return malformed(err)
 	}
 	return nil
@@ -276,11 +278,11 @@ func waitOf(words url.Values) (time.Duration, error) {
 	return time.Duration(seconds * float64(time.Second)), nil
 }
 
-var errMethod = &wire.Error{Status: http.StatusMethodNotAllowed, Name: "NoSuchMethod", Message: "the path takes another method"}
+var errMethod = wire.NewError(wire.NoSuchMethod, "the path takes another method")
 
 // fail writes an error.
 func fail(to http.ResponseWriter, asked *http.Request, err error) {
-	told := wire.ErrorOf(err, "Failed", http.StatusInternalServerError)
+	told := ErrorOf(err, wire.Failed)
 	switch told.Status {
 	case http.StatusUnauthorized:
 		to.Header().Set("WWW-Authenticate", "Bearer")

@@ -13,65 +13,66 @@ import (
 	"testing"
 	"time"
 
-	"ordup-node/internal/client"
-	"ordup-node/internal/engine"
-	"ordup-node/internal/epoch"
-	"ordup-node/internal/fleet"
-	"ordup-node/internal/listen"
-	"ordup-node/internal/primary"
-	"ordup-node/internal/serve"
-	"ordup-node/internal/site"
-	"ordup-node/internal/wire"
+	"ordup.dev/node/internal/client"
+	"ordup.dev/node/internal/engine"
+	"ordup.dev/node/internal/epoch"
+	"ordup.dev/node/internal/fleet"
+	"ordup.dev/node/internal/listen"
+	"ordup.dev/node/internal/primary"
+	"ordup.dev/node/internal/script"
+	"ordup.dev/node/internal/serve"
+	"ordup.dev/node/internal/site"
+	"ordup.dev/node/internal/wire"
 )
 
 // A writer stands in for a primary.
 type writer struct {
 	lock   sync.Mutex
 	err    error
-	text   string
+	answer script.Answer
 	asked  []epoch.Request
 	places []epoch.Place
 	wishes []epoch.Wish
 	status primary.Status
 }
 
-func (writer *writer) Submit(ctx context.Context, request epoch.Request) (primary.Answer, error) {
-	writer.lock.Lock()
-	defer writer.lock.Unlock()
-	writer.asked = append(writer.asked, request)
-	if writer.text == "" && writer.err == nil {
-		writer.lock.Unlock()
+func (w *writer) Submit(ctx context.Context, request epoch.Request) (script.Answer, error) {
+	w.lock.Lock()
+	defer w.lock.Unlock()
+	w.asked = append(w.asked, request)
+	if w.answer == (script.Answer{}) && w.err == nil {
+		w.lock.Unlock()
 		<-ctx.Done()
-		writer.lock.Lock()
-		return primary.Answer{}, fmt.Errorf("the update waits for north: %w", ctx.Err())
+		w.lock.Lock()
+		return script.Answer{}, fmt.Errorf("the update waits for north: %w", ctx.Err())
 	}
-	return primary.Answer{Text: writer.text}, writer.err
+	return w.answer, w.err
 }
 
-func (writer *writer) Tell(_ context.Context, place epoch.Place) error {
-	writer.lock.Lock()
-	defer writer.lock.Unlock()
-	writer.places = append(writer.places, place)
-	return writer.err
+func (w *writer) Tell(_ context.Context, place epoch.Place) error {
+	w.lock.Lock()
+	defer w.lock.Unlock()
+	w.places = append(w.places, place)
+	return w.err
 }
 
-func (writer *writer) Next(_ context.Context, wish epoch.Wish) (int64, error) {
-	writer.lock.Lock()
-	defer writer.lock.Unlock()
-	writer.wishes = append(writer.wishes, wish)
-	return wish.From + 1, writer.err
+func (w *writer) Next(_ context.Context, wish epoch.Wish) (int64, error) {
+	w.lock.Lock()
+	defer w.lock.Unlock()
+	w.wishes = append(w.wishes, wish)
+	return wish.From + 1, w.err
 }
 
-func (writer *writer) Status() primary.Status {
-	writer.lock.Lock()
-	defer writer.lock.Unlock()
-	return writer.status
+func (w *writer) Status() primary.Status {
+	w.lock.Lock()
+	defer w.lock.Unlock()
+	return w.status
 }
 
-func (writer *writer) set(text string, err error) {
-	writer.lock.Lock()
-	defer writer.lock.Unlock()
-	writer.text, writer.err = text, err
+func (w *writer) set(answer script.Answer, err error) {
+	w.lock.Lock()
+	defer w.lock.Unlock()
+	w.answer, w.err = answer, err
 }
 
 // A handler may be given once the address is known.
@@ -133,26 +134,28 @@ func TestAnUpdateIsAnswered(t *testing.T) {
 	writer := &writer{}
 	address := startPrimary(t, nil, writer)
 	for _, row := range []struct {
-		text   string
+		answer script.Answer
 		err    error
 		status int
 		want   string
 	}{
-		{"ok acked 3 epoch 2", nil, 200, `{"client":"ann","number":7,"epoch":2,"place":3,"seen":"2.3"}`},
-		{"refused 13 LogFull", nil, 422, `"refused":13,"refusal":"LogFull"`},
-		{"", nil, 504, `"error":"NoAnswer"`},
-		{"", &primary.PassedError{Last: 9}, 409, `"error":"Passed","message":"the client asked under 9 before","last":9`},
-		{"", primary.ErrDiffers, 409, `"error":"Differs"`},
-		{"", primary.ErrMalformed, 400, `"error":"Malformed"`},
-		{"", primary.ErrBusy, 503, `"error":"Busy"`},
-		{"", primary.ErrFull, 507, `"error":"Full"`},
-		{"", &primary.NotWriterError{}, 503, `"error":"NotWriter"`},
-		{"", errors.New("something"), 500, `"error":"Failed"`},
-		{"what", nil, 500, `"error":"Failed"`},
+		{script.Answer{Place: 3, Epoch: 2}, nil, 200, `{"client":"ann","number":7,"epoch":2,"place":3,"seen":"2.3"}`},
+		{script.Answer{Refusal: script.Refusal{Number: 13, Name: "LogFull"}}, nil, 422,
+			`"message":"refused 13 LogFull","refused":13,"refusal":"LogFull"`},
+		{script.Answer{}, nil, 504, `"error":"NoAnswer"`},
+		{script.Answer{}, &primary.PassedError{Last: 9}, 409, `"error":"Passed","message":"the client asked under 9 before","last":9`},
+		{script.Answer{}, primary.ErrDiffers, 409, `"error":"Differs"`},
+		{script.Answer{}, primary.ErrMalformed, 400, `"error":"Malformed"`},
+		{script.Answer{}, primary.ErrBusy, 503, `"error":"Busy"`},
+		{script.Answer{}, primary.ErrFull, 507, `"error":"Full"`},
+		{script.Answer{}, &primary.NotWriterError{}, 503, `"error":"NotWriter"`},
+		{script.Answer{}, errors.New("something"), 500, `"error":"Failed"`},
 	} {
-		writer.set(row.text, row.err)
-		status, text := ask(t, "POST", address+"/update?wait=0.1", good)
-		is(t, row.want, status, text, row.status, row.want)
+		t.Run(row.want, func(t *testing.T) {
+			writer.set(row.answer, row.err)
+			status, text := ask(t, "POST", address+"/update?wait=0.1", good)
+			is(t, row.want, status, text, row.status, row.want)
+		})
 	}
 	if asked := writer.asked[0]; asked != (epoch.Request{Client: "ann", Number: 7, Changes: "add:tea:-5 add:till:20"}) {
 		t.Error(asked)
@@ -160,7 +163,7 @@ func TestAnUpdateIsAnswered(t *testing.T) {
 }
 
 func TestWhatIsNoRequestIsRefused(t *testing.T) {
-	writer := &writer{text: "ok acked 1 epoch 1"}
+	writer := &writer{answer: script.Answer{Place: 1, Epoch: 1}}
 	address := startPrimary(t, nil, writer)
 	for _, row := range []struct {
 		method, path, body string
@@ -198,8 +201,10 @@ func TestWhatIsNoRequestIsRefused(t *testing.T) {
 		{"GET", "/../../etc/passwd", ``, 404, "NoSuchPath"},
 		{"GET", "/%ff%00", ``, 404, "NoSuchPath"},
 	} {
-		status, text := ask(t, row.method, address+row.path, row.body)
-		is(t, row.path+" "+row.body, status, text, row.status, row.want)
+		t.Run(fmt.Sprintf("%s %s %.40s", row.method, row.path, row.body), func(t *testing.T) {
+			status, text := ask(t, row.method, address+row.path, row.body)
+			is(t, row.path+" "+row.body, status, text, row.status, row.want)
+		})
 	}
 	if len(writer.asked)+len(writer.places)+len(writer.wishes) > 0 {
 		t.Error(writer.asked, writer.places, writer.wishes)
@@ -214,10 +219,10 @@ func TestWhatIsNoRequestIsRefused(t *testing.T) {
 }
 
 func TestAnotherPrimaryPassesOn(t *testing.T) {
-	first, second := &writer{text: "ok acked 3 epoch 2"}, &writer{}
+	first, second := &writer{answer: script.Answer{Place: 3, Epoch: 2}}, &writer{}
 	one := startPrimary(t, nil, first)
 	other := startPrimary(t, nil, second)
-	second.set("", &primary.NotWriterError{Address: one})
+	second.set(script.Answer{}, &primary.NotWriterError{Address: one})
 	second.status.Writer, first.status.Writes, first.status.Core.Epoch = one, true, 2
 	status, text := ask(t, "GET", one+"/epoch", ``)
 	is(t, "without a lease", status, text, 503, `"error":"NotWriter"`)
@@ -241,20 +246,20 @@ func TestAnotherPrimaryPassesOn(t *testing.T) {
 		t.Error(first.places, second.places)
 	}
 	// So do the sites for which there is no answer in time.
-	first.set("", nil)
+	first.set(script.Answer{}, nil)
 	status, text = ask(t, "POST", other+"/update?wait=0.4", good)
 	is(t, "no answer in time", status, text, 504, "the update waits for north")
 	// A refusal comes through, and what was passed on goes no further.
-	first.set("", primary.ErrDiffers)
+	first.set(script.Answer{}, primary.ErrDiffers)
 	status, text = ask(t, "POST", other+"/update", good)
 	is(t, "differs", status, text, 409, "Differs")
-	first.set("", &primary.NotWriterError{Address: other})
+	first.set(script.Answer{}, &primary.NotWriterError{Address: other})
 	status, text = ask(t, "POST", other+"/update", good)
 	is(t, "around", status, text, 503, `"writer":"`+other)
-	second.set("", &primary.NotWriterError{Address: "http://127.0.0.1:1"})
+	second.set(script.Answer{}, &primary.NotWriterError{Address: "http://127.0.0.1:1"})
 	status, text = ask(t, "POST", other+"/update", good)
 	is(t, "nobody there", status, text, 503, `"writer":"http://127.0.0.1:1"`)
-	second.set("", &primary.NotWriterError{Address: "https://127.0.0.1:1"})
+	second.set(script.Answer{}, &primary.NotWriterError{Address: "https://127.0.0.1:1"})
 	status, text = ask(t, "POST", other+"/update", good)
 	is(t, "another scheme", status, text, 503, `"error":"NotWriter"`)
 }
@@ -291,11 +296,11 @@ func TestAPlaceThatCannotBeComesBack(t *testing.T) {
 	if err := asker.Tell(context.Background(), place); !errors.As(err, &cannotBe) || cannotBe.Updates != 5 {
 		t.Error(err)
 	}
-	writer.set("", epoch.ErrOtherScript)
+	writer.set(script.Answer{}, epoch.ErrOtherScript)
 	if err := asker.Tell(context.Background(), place); !errors.Is(err, epoch.ErrOtherScript) {
 		t.Error(err)
 	}
-	writer.set("", epoch.ErrNoSite)
+	writer.set(script.Answer{}, epoch.ErrNoSite)
 	if err := asker.Tell(context.Background(), place); !errors.Is(err, epoch.ErrNoSite) {
 		t.Error(err)
 	}
@@ -306,7 +311,7 @@ func TestAPlaceThatCannotBeComesBack(t *testing.T) {
 	if err := upper.Tell(context.Background(), place); !errors.Is(err, epoch.ErrNoSite) || !strings.Contains(err.Error(), "the process of the fleet") {
 		t.Error("a site of a fleet told a primary", err)
 	}
-	writer.set("", epoch.ErrBehind)
+	writer.set(script.Answer{}, epoch.ErrBehind)
 	place.Member = "east"
 	var told *wire.Error
 	if err := asker.Tell(context.Background(), place); !errors.As(err, &told) || told.Name != "NotYet" {
@@ -318,16 +323,16 @@ func TestASiteOfAFleetStaysAtTheFleet(t *testing.T) {
 	first, second := &writer{}, &writer{}
 	one, other := startPrimary(t, nil, first), startPrimary(t, nil, second)
 	// While one takes over, each names the other one.
-	first.set("", &primary.NotWriterError{Address: other})
-	second.set("", &primary.NotWriterError{Address: one})
+	first.set(script.Answer{}, &primary.NotWriterError{Address: other})
+	second.set(script.Answer{}, &primary.NotWriterError{Address: one})
 	asker, _ := startFleet(t, one)
 	place := epoch.Place{Site: "far", Member: "east", Epoch: 1, Applied: 7, Entry: 3}
 	var told *wire.Error
 	if err := asker.Tell(context.Background(), place); !errors.As(err, &told) || told.Name != "NotYet" || told.Writer != "" {
 		t.Error("the site is told", err)
 	}
-	first.set("", nil)
-	second.set("", nil)
+	first.set(script.Answer{}, nil)
+	second.set(script.Answer{}, nil)
 	if err := asker.Tell(context.Background(), place); err != nil {
 		t.Error(err)
 	}
@@ -345,15 +350,15 @@ func TestASiteOfAFleetStaysAtTheFleet(t *testing.T) {
 // A reader stands in for a site.
 type reader struct{ place int64 }
 
-func (reader *reader) Read(ctx context.Context, seen site.Seen) (site.Reading, error) {
-	if reader.place < 0 {
+func (r *reader) Read(ctx context.Context, seen site.Seen) (site.Reading, error) {
+	if r.place < 0 {
 		return site.Reading{}, site.ErrNotServing
 	}
-	if seen.Epoch > 1 || seen.Epoch == 1 && seen.Place > reader.place {
+	if seen.Epoch > 1 || seen.Epoch == 1 && seen.Place > r.place {
 		<-ctx.Done()
-		return site.Reading{}, &site.BehindError{Has: site.Seen{Epoch: 1, Place: reader.place}}
+		return site.Reading{}, &site.BehindError{Has: site.Seen{Epoch: 1, Place: r.place}}
 	}
-	return site.Reading{Shown: &site.Shown{Entry: 9, Epoch: 1, Place: reader.place, Values: []site.Value{{Name: "tea", Value: 995}}, Limits: []string{"count 3"}},
+	return site.Reading{Shown: &site.Shown{Entry: 9, Epoch: 1, Place: r.place, Values: map[string]int64{"tea": 995}, Limits: []string{"count 3"}},
 		Lease: 2 * time.Second}, nil
 }
 
@@ -383,8 +388,10 @@ func TestAReaderIsShownNoLess(t *testing.T) {
 		{"/healthz", 200, "ok"},
 		{"/readyz", 200, "ok"},
 	} {
-		status, text := ask(t, "GET", address+row.path, "")
-		is(t, row.path, status, text, row.status, row.want)
+		t.Run(row.path, func(t *testing.T) {
+			status, text := ask(t, "GET", address+row.path, "")
+			is(t, row.path, status, text, row.status, row.want)
+		})
 	}
 	reader.place = -1
 	status, text := ask(t, "GET", address+"/values", "")
@@ -425,11 +432,11 @@ func TestTheTableHasEachError(t *testing.T) {
 	for _, err := range []error{primary.ErrBusy, primary.ErrFull, primary.ErrDiffers, primary.ErrMalformed, epoch.ErrNoSite, epoch.ErrOtherScript, epoch.ErrBehind,
 		epoch.ErrOtherWish, epoch.ErrNotYet, site.ErrNotServing, context.DeadlineExceeded, &primary.PassedError{}, &primary.NotWriterError{},
 		&site.BehindError{}, &epoch.CannotBeError{}} {
-		told := wire.ErrorOf(err, "Failed", 500)
+		told := serve.ErrorOf(err, wire.Failed)
 		if !strings.Contains(string(source), fmt.Sprintf("//\t%d %s ", told.Status, told.Name)) {
 			t.Errorf("the table has no %d %s", told.Status, told.Name)
 		}
-		if text, err := json.Marshal(told); err != nil || !strings.Contains(string(text), told.Name) {
+		if text, err := json.Marshal(told); err != nil || !strings.Contains(string(text), string(told.Name)) {
 			t.Error(string(text), err)
 		}
 	}

@@ -6,8 +6,8 @@ import (
 	"net/http"
 	"strings"
 
-	"ordup-node/internal/site"
-	"ordup-node/internal/wire"
+	"ordup.dev/node/internal/site"
+	"ordup.dev/node/internal/wire"
 )
 
 // A Reader is what is asked of a site.
@@ -33,54 +33,52 @@ func NewSite(config Config, name string, reader Reader) *Site {
 	return served
 }
 
-func (served *Site) value(ctx context.Context, asked *request) (interface{}, error) {
-	reading, showing, err := served.read(ctx, asked)
+func (s *Site) value(ctx context.Context, asked *request) (any, error) {
+	reading, showing, err := s.read(ctx, asked)
 	if err != nil {
 		return nil, err
 	}
 	name := strings.TrimPrefix(asked.URL.Path, wire.ValuePath)
-	value, isThere := reading.ValueOf(name)
+	value, isThere := reading.Values[name]
 	if !isThere {
-		return nil, &wire.Error{Status: http.StatusNotFound, Name: "NoSuchObject", Message: "the site has no such object"}
+		return nil, wire.NewError(wire.NoSuchObject, "the site has no such object")
 	}
 	return wire.Value{Object: name, Value: value, Showing: showing}, nil
 }
 
-func (served *Site) values(ctx context.Context, asked *request) (interface{}, error) {
-	reading, showing, err := served.read(ctx, asked)
+func (s *Site) values(ctx context.Context, asked *request) (any, error) {
+	reading, showing, err := s.read(ctx, asked)
 	if err != nil {
 		return nil, err
 	}
-	values := make(map[string]int64, len(reading.Values))
-	for _, each := range reading.Values {
-		values[each.Name] = each.Value
-	}
-	return wire.Values{Values: values, Showing: showing}, nil
+	return wire.Values{Values: reading.Values, Showing: showing}, nil
 }
 
-func (served *Site) read(ctx context.Context, asked *request) (reading site.Reading, showing wire.Showing, err error) {
+func (s *Site) read(ctx context.Context, asked *request) (reading site.Reading, showing wire.Showing, err error) {
 	seen := site.Seen{}
 	if text := asked.words.Get("seen"); text != "" {
-		if seen.Epoch, seen.Place, err = wire.ParseSeen(text); err != nil {
+		seen.Epoch, seen.Place, err = wire.ParseSeen(text)
+		if err != nil {
 			return reading, showing, malformed(err)
 		}
 	}
-	if reading, err = served.readOrWait(ctx, seen); err != nil {
+	reading, err = s.readOrWait(ctx, seen)
+	if err != nil {
 		return reading, showing, err
 	}
-	return reading, wire.Showing{Site: served.name, Epoch: reading.Epoch, Place: reading.Place, Seen: wire.SeenText(reading.Epoch, reading.Place),
+	return reading, wire.Showing{Site: s.name, Epoch: reading.Epoch, Place: reading.Place, Seen: wire.SeenText(reading.Epoch, reading.Place),
 		Lease: reading.Lease.Seconds(), Limits: reading.Limits}, nil
 }
 
 // readOrWait waits where the site is behind what was seen, and too many do not wait yet.
-func (served *Site) readOrWait(ctx context.Context, seen site.Seen) (site.Reading, error) {
+func (s *Site) readOrWait(ctx context.Context, seen site.Seen) (site.Reading, error) {
 	now, cancel := context.WithCancel(ctx)
 	cancel()
-	reading, err := served.reader.Read(now, seen)
+	reading, err := s.reader.Read(now, seen)
 	var behind *site.BehindError
-	if !errors.As(err, &behind) || !served.waiting.enter() {
+	if !errors.As(err, &behind) || !s.waiting.enter() {
 		return reading, err
 	}
-	defer served.waiting.leave()
-	return served.reader.Read(ctx, seen)
+	defer s.waiting.leave()
+	return s.reader.Read(ctx, seen)
 }

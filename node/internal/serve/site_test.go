@@ -10,8 +10,8 @@ import (
 	"testing"
 	"time"
 
-	"ordup-node/internal/serve"
-	"ordup-node/internal/site"
+	"ordup.dev/node/internal/serve"
+	"ordup.dev/node/internal/site"
 )
 
 func TestReadersThatWaitKeepNobodyOut(t *testing.T) {
@@ -63,22 +63,23 @@ type crowd struct {
 	all   chan struct{}
 }
 
-func (crowd *crowd) Read(ctx context.Context, seen site.Seen) (site.Reading, error) {
+func (c *crowd) Read(ctx context.Context, seen site.Seen) (site.Reading, error) {
 	if ctx.Err() != nil {
-		return crowd.reader.Read(ctx, seen)
+		return c.reader.Read(ctx, seen)
 	}
-	crowd.lock.Lock()
-	all := crowd.all
-	if crowd.count++; crowd.count == crowd.most {
+	c.lock.Lock()
+	all := c.all
+	c.count++
+	if c.count == c.most {
 		close(all)
-		crowd.count, crowd.all = 0, make(chan struct{})
+		c.count, c.all = 0, make(chan struct{})
 	}
-	crowd.lock.Unlock()
+	c.lock.Unlock()
 	select {
 	case <-all:
 	case <-ctx.Done():
 	}
-	return crowd.reader.Read(ctx, site.Seen{})
+	return c.reader.Read(ctx, site.Seen{})
 }
 
 func TestAThousandReadersKeepTheirConnections(t *testing.T) {

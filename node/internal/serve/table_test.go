@@ -1,38 +1,29 @@
 package serve
 
 import (
-	"errors"
-	"fmt"
 	"os"
 	"path/filepath"
 	"regexp"
 	"strings"
 	"testing"
-
-	"ordup-node/internal/wire"
 )
 
-// The table of package wire has the errors that are of this package alone, and each name in it is one of some error.
-func TestTheTableHasTheErrorsOfTheServer(t *testing.T) {
+// Each name of the table of package wire is one of some error of a process.
+func TestEachNameIsOfAnError(t *testing.T) {
 	table, err := os.ReadFile("../wire/wire.go")
 	if err != nil {
 		t.Fatal(err)
 	}
-	for _, err := range []error{errNoToken, errClosed, errOtherOrigin, errNotJSON, otherSite("north"), errBusy, errMethod, malformed(errors.New("x"))} {
-		if told := wire.ErrorOf(err, "", 0); !strings.Contains(string(table), fmt.Sprintf("//\t%d %s ", told.Status, told.Name)) {
-			t.Errorf("the table has no %d %s", told.Status, told.Name)
-		}
-	}
 	sources := ""
-	files, _ := filepath.Glob("../*/*.go")
+	files, _ := filepath.Glob("*.go")
 	for _, file := range files {
-		if text, err := os.ReadFile(file); err == nil && !strings.HasSuffix(file, "_test.go") && !strings.Contains(file, "/client/") {
+		if text, err := os.ReadFile(file); err == nil && !strings.HasSuffix(file, "_test.go") {
 			sources += string(text)
 		}
 	}
 	rows := regexp.MustCompile(`(?m)^//\t\d{3} (\w+) `).FindAllStringSubmatch(string(table), -1)
 	for _, row := range rows {
-		if !strings.Contains(sources, `"`+row[1]+`"`) {
+		if !regexp.MustCompile(`\bwire\.` + row[1] + `\b`).MatchString(sources) {
 			t.Errorf("nothing is %s", row[1])
 		}
 	}

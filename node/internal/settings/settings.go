@@ -32,17 +32,17 @@ func New(command string) *Set {
 }
 
 // Text is a setting of any text. In the help the word between back quotes stands for what it takes.
-func (set *Set) Text(to *string, key, usual, help string) {
-	set.flags.StringVar(to, key, usual, help)
+func (s *Set) Text(to *string, key, usual, help string) {
+	s.flags.StringVar(to, key, usual, help)
 }
 
 // Switch is a setting that is true or false.
-func (set *Set) Switch(to *bool, key, help string) { set.flags.BoolVar(to, key, false, help) }
+func (s *Set) Switch(to *bool, key, help string) { s.flags.BoolVar(to, key, false, help) }
 
 // Number is a setting from least to most.
-func (set *Set) Number(to *int64, key string, usual, least, most int64, help string) {
+func (s *Set) Number(to *int64, key string, usual, least, most int64, help string) {
 	*to = usual
-	set.flags.Func(key, help+fmt.Sprintf(" (%d)", usual), func(text string) error {
+	s.flags.Func(key, help+fmt.Sprintf(" (%d)", usual), func(text string) error {
 		number, err := strconv.ParseInt(text, 10, 64)
 		if err != nil || number < least || number > most {
 			return fmt.Errorf("it is a number from %d to %d", least, most)
@@ -53,9 +53,9 @@ func (set *Set) Number(to *int64, key string, usual, least, most int64, help str
 }
 
 // Seconds is a setting of a time, as 5 or 0.5.
-func (set *Set) Seconds(to *time.Duration, key string, usual, most time.Duration, help string) {
+func (s *Set) Seconds(to *time.Duration, key string, usual, most time.Duration, help string) {
 	*to = usual
-	set.flags.Func(key, help+fmt.Sprintf(" (%g)", usual.Seconds()), func(text string) error {
+	s.flags.Func(key, help+fmt.Sprintf(" (%g)", usual.Seconds()), func(text string) error {
 		seconds, err := strconv.ParseFloat(text, 64)
 		if err != nil || !(seconds >= 0 && seconds <= most.Seconds()) {
 			return fmt.Errorf("it is a number of seconds, at most %g", most.Seconds())
@@ -66,11 +66,12 @@ func (set *Set) Seconds(to *time.Duration, key string, usual, most time.Duration
 }
 
 // List is a setting of words with commas between them.
-func (set *Set) List(to *[]string, key, help string) {
-	set.flags.Func(key, help, func(text string) error {
+func (s *Set) List(to *[]string, key, help string) {
+	s.flags.Func(key, help, func(text string) error {
 		*to = nil
 		for _, word := range strings.Split(text, ",") {
-			if word = strings.TrimSpace(word); word == "" {
+			word = strings.TrimSpace(word)
+			if word == "" {
 				return errors.New("it is a list of words with commas between them")
 			}
 			*to = append(*to, word)
@@ -80,11 +81,11 @@ func (set *Set) List(to *[]string, key, help string) {
 }
 
 // Has is whether the set has a setting of this key.
-func (set *Set) Has(key string) bool { return set.flags.Lookup(key) != nil }
+func (s *Set) Has(key string) bool { return s.flags.Lookup(key) != nil }
 
 // Read reads the flags among the words and then the file, and returns the words that are none. isKnown is whether another command has a
 // key, which may stand in the file then.
-func (set *Set) Read(words []string, isKnown func(key string) bool) ([]string, error) {
+func (s *Set) Read(words []string, isKnown func(key string) bool) ([]string, error) {
 	rest := []string{}
 	for len(words) > 0 {
 		word := words[0]
@@ -97,26 +98,26 @@ func (set *Set) Read(words []string, isKnown func(key string) bool) ([]string, e
 			rest = append(rest, word)
 			continue
 		}
-		used, err := set.flag(strings.TrimPrefix(word[1:], "-"), words)
+		used, err := s.flag(strings.TrimPrefix(word[1:], "-"), words)
 		if err != nil {
 			return nil, err
 		}
 		words = words[used:]
 	}
-	if set.file == "" {
+	if s.file == "" {
 		return rest, nil
 	}
-	text, err := os.ReadFile(set.file)
+	text, err := os.ReadFile(s.file)
 	if err != nil {
 		return nil, err
 	}
-	return rest, set.readFile(string(text), isKnown)
+	return rest, s.readFile(string(text), isKnown)
 }
 
 // flag sets one, as `every=8`, or with its value among the words that follow. It returns how many of these are used.
-func (set *Set) flag(text string, words []string) (used int, err error) {
+func (s *Set) flag(text string, words []string) (used int, err error) {
 	key, value, hasValue := strings.Cut(text, "=")
-	found := set.flags.Lookup(key)
+	found := s.flags.Lookup(key)
 	switch {
 	case found == nil && (key == "help" || key == "h"):
 		return 0, flag.ErrHelp
@@ -130,7 +131,7 @@ func (set *Set) flag(text string, words []string) (used int, err error) {
 	default:
 		value, used = words[0], 1
 	}
-	if err = set.flags.Set(key, value); err != nil {
+	if err = s.flags.Set(key, value); err != nil {
 		err = fmt.Errorf("%.60q for --%s: %w", value, key, err)
 	}
 	return used, err
@@ -142,9 +143,9 @@ func isSwitch(found *flag.Flag) bool {
 	return isOne && switched.IsBoolFlag()
 }
 
-func (set *Set) readFile(text string, isKnown func(string) bool) error {
+func (s *Set) readFile(text string, isKnown func(string) bool) error {
 	isGiven := map[string]bool{}
-	set.flags.Visit(func(given *flag.Flag) { isGiven[given.Name] = true })
+	s.flags.Visit(func(given *flag.Flag) { isGiven[given.Name] = true })
 	isThere := map[string]bool{}
 	for at, line := range strings.Split(text, "\n") {
 		line = strings.TrimSpace(line)
@@ -159,15 +160,15 @@ func (set *Set) readFile(text string, isKnown func(string) bool) error {
 			err = fmt.Errorf("%.60q is not `key = value`", line)
 		case isThere[key]:
 			err = fmt.Errorf("the key %s stands there twice", key)
-		case key == fileKey || !set.Has(key) && !isKnown(key):
+		case key == fileKey || !s.Has(key) && !isKnown(key):
 			err = fmt.Errorf("there is no key %.60q", key)
-		case set.Has(key) && !isGiven[key]:
-			if err = set.flags.Set(key, value); err != nil {
+		case s.Has(key) && !isGiven[key]:
+			if err = s.flags.Set(key, value); err != nil {
 				err = fmt.Errorf("%.60q for %s: %w", value, key, err)
 			}
 		}
 		if err != nil {
-			return fmt.Errorf("%s, line %d: %w", set.file, at+1, err)
+			return fmt.Errorf("%s, line %d: %w", s.file, at+1, err)
 		}
 		isThere[key] = true
 	}
@@ -175,9 +176,9 @@ func (set *Set) readFile(text string, isKnown func(string) bool) error {
 }
 
 // Help is a line for each setting, in the order of their keys.
-func (set *Set) Help() string {
+func (s *Set) Help() string {
 	lines := []string{}
-	set.flags.VisitAll(func(each *flag.Flag) {
+	s.flags.VisitAll(func(each *flag.Flag) {
 		name, help := flag.UnquoteUsage(each)
 		if each.DefValue != "" && each.DefValue != "false" {
 			help += fmt.Sprintf(" (%s)", each.DefValue)

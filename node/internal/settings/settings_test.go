@@ -10,7 +10,7 @@ import (
 	"testing"
 	"time"
 
-	"ordup-node/internal/settings"
+	"ordup.dev/node/internal/settings"
 )
 
 type values struct {
@@ -44,6 +44,7 @@ func read(t *testing.T, file string, words ...string) (values, []string, error) 
 }
 
 func TestFlagsWin(t *testing.T) {
+	t.Parallel()
 	file := "# who\n\nlisten = :2 # not a comment\n every=9\nother = what it likes\nengine = http://a:1, http://b:2\n"
 	given, rest, err := read(t, file, "ann", "--every", "8", "7", "--wait=0.5", "--replace", "add:tea:-5")
 	want := values{":2 # not a comment", 8, 500 * time.Millisecond, []string{"http://a:1", "http://b:2"}, true}
@@ -57,6 +58,7 @@ func TestFlagsWin(t *testing.T) {
 }
 
 func TestWhatIsWrongIsNamed(t *testing.T) {
+	t.Parallel()
 	for _, row := range []struct{ file, flag, says string }{
 		{"", "--evry=1", "there is no flag --evry"},
 		{"", "--every=101", `"101" for --every: it is a number from 1 to 100`},
@@ -75,13 +77,15 @@ func TestWhatIsWrongIsNamed(t *testing.T) {
 		{"settings = more", "", `there is no key "settings"`},
 		{"", "--settings=/nowhere/file", "/nowhere/file"},
 	} {
-		words := []string{}
-		if row.flag != "" {
-			words = append(words, row.flag)
-		}
-		if _, _, err := read(t, row.file, words...); err == nil || !strings.Contains(err.Error(), row.says) {
-			t.Errorf("%q %q: %v", row.file, row.flag, err)
-		}
+		t.Run(row.file+row.flag, func(t *testing.T) {
+			words := []string{}
+			if row.flag != "" {
+				words = append(words, row.flag)
+			}
+			if _, _, err := read(t, row.file, words...); err == nil || !strings.Contains(err.Error(), row.says) {
+				t.Errorf("%q %q: %v", row.file, row.flag, err)
+			}
+		})
 	}
 	if _, _, err := read(t, "", "--help"); !errors.Is(err, flag.ErrHelp) {
 		t.Error(err)

@@ -4,11 +4,10 @@ import (
 	"context"
 	"errors"
 	"fmt"
-	"sync/atomic"
 	"time"
 
-	"ordup-node/internal/clock"
-	"ordup-node/internal/engine"
+	"ordup.dev/node/internal/clock"
+	"ordup.dev/node/internal/engine"
 )
 
 // ErrNotServing says that this process serves no reader: it has no lease, has not reached the end that the script had when it got it, or
@@ -21,8 +20,8 @@ type Seen struct{ Epoch, Place int64 }
 // A BehindError says that the site has not shown what the reader has seen.
 type BehindError struct{ Has Seen }
 
-func (err *BehindError) Error() string {
-	return fmt.Sprintf("the site is at place %d of epoch %d", err.Has.Place, err.Has.Epoch)
+func (e *BehindError) Error() string {
+	return fmt.Sprintf("the site is at place %d of epoch %d", e.Has.Place, e.Has.Epoch)
 }
 
 // A Reading is what a reader is told.
@@ -43,19 +42,19 @@ type moment struct {
 }
 
 // now is what may be told. The lease is looked at after the values, so it lived when they were the last ones.
-func (site *Site) now() moment {
-	site.lock.Lock()
-	shown, changed, first, term, taken := site.shown, site.changed, site.first, site.term, site.taken
-	site.lock.Unlock()
-	if shown == nil || shown.Entry < first || !site.lease.Lives(term) {
+func (s *Site) now() moment {
+	s.lock.Lock()
+	shown, changed, first, term, taken := s.shown, s.changed, s.first, s.term, s.taken
+	s.lock.Unlock()
+	if shown == nil || shown.Entry < first || !s.lease.Lives(term) {
 		shown = nil
 	}
 	return moment{shown, term, taken == term, changed}
 }
 
 // served is what readers are served, or nil: what may be told, once a place was taken in this term.
-func (site *Site) served() *Shown {
-	now := site.now()
+func (s *Site) served() *Shown {
+	now := s.now()
 	if !now.isTaken {
 		return nil
 	}
@@ -65,62 +64,52 @@ func (site *Site) served() *Shown {
 // Read gives the values that the site shows, which are no less than what the reader has seen. For that it waits, until the context ends:
 // then it is a BehindError. While the process serves nobody it fails at once with ErrNotServing. What is more than one epoch ahead fails at
 // once too: the site has told all of an epoch before the one after the next begins.
-func (site *Site) Read(ctx context.Context, seen Seen) (Reading, error) {
+func (s *Site) Read(ctx context.Context, seen Seen) (Reading, error) {
 	for {
-		shown := site.served()
+		shown := s.served()
 		switch {
 		case shown == nil:
 			return Reading{}, ErrNotServing
 		case shown.covers(seen):
-			atomic.AddInt64(&site.readers, 1)
-			return Reading{shown, site.lease.Until() - clock.Now()}, nil
+			s.readers.Add(1)
+			return Reading{shown, s.lease.Until() - clock.Now()}, nil
 		case seen.Epoch > shown.Epoch+1 || ctx.Err() != nil:
 			return Reading{}, &BehindError{Seen{shown.Epoch, shown.Place}}
 		}
-		site.await(ctx, seen)
+		s.await(ctx, seen)
 	}
 }
 
 // await waits until the process shows what a reader has seen, or nothing any more, or the context ends.
-func (site *Site) await(ctx context.Context, seen Seen) {
+func (s *Site) await(ctx context.Context, seen Seen) {
 	came := make(chan struct{})
-	site.lock.Lock()
-	if site.shown == nil || site.shown.covers(seen) {
+	s.lock.Lock()
+	if s.shown == nil || s.shown.covers(seen) {
 		close(came)
 	} else {
-		site.waiting[came] = seen
+		s.waiting[came] = seen
 	}
-	site.lock.Unlock()
+	s.lock.Unlock()
 	select {
 	case <-came:
 	case <-ctx.Done():
-		site.lock.Lock()
-		defer site.lock.Unlock()
-		delete(site.waiting, came)
+		s.lock.Lock()
+		defer s.lock.Unlock()
+		delete(s.waiting, came)
 	}
 }
 
 // covers is whether a reader who has seen this sees no less.
-func (shown *Shown) covers(seen Seen) bool {
-	return shown.Epoch > seen.Epoch || shown.Epoch == seen.Epoch && shown.Place >= seen.Place
-}
-
-// ValueOf is the value of an object, and whether there is one of this name.
-func (shown *Shown) ValueOf(name string) (int64, bool) {
-	for _, value := range shown.Values {
-		if value.Name == name {
-			return value.Value, true
-		}
-	}
-	return 0, false
+func (s *Shown) covers(seen Seen) bool {
+	return s.Epoch > seen.Epoch || s.Epoch == seen.Epoch && s.Place >= seen.Place
 }
 
 // isFar is whether what the script does not have as told is at most a quarter of what the limits of the site allow. A limit that is not of
 // a count may be reached by one update.
-func (shown *Shown) isFar() bool {
-	for _, limit := range shown.Limits {
+func (s *Shown) isFar() bool {
+	for _, limit := range s.Limits {
 		var most int64
-		if count, _ := fmt.Sscanf(limit, "count %d", &most); count != 1 || shown.Place-shown.Told > most/4 {
+		if count, _ := fmt.Sscanf(limit, "count %d", &most); count != 1 || s.Place-s.Told > most/4 {
 			return false
 		}
 	}
@@ -145,18 +134,18 @@ type Status struct {
 }
 
 // Status tells what there is.
-func (site *Site) Status() Status {
-	status := Status{Serves: site.served() != nil, Readers: atomic.LoadInt64(&site.readers), EngineFailures: site.config.Engine.Failures()}
-	site.lock.Lock()
-	if shown := site.shown; shown != nil {
-		status.Since, status.HasSeen = clock.Now()-site.shownAt, true
+func (s *Site) Status() Status {
+	status := Status{Serves: s.served() != nil, Readers: s.readers.Load(), EngineFailures: s.config.Engine.Failures()}
+	s.lock.Lock()
+	if shown := s.shown; shown != nil {
+		status.Since, status.HasSeen = clock.Now()-s.shownAt, true
 		status.Entry, status.Epoch, status.Place, status.Told = shown.Entry, shown.Epoch, shown.Place, shown.Told
 	}
-	site.lock.Unlock()
-	if told := atomic.LoadInt64(&site.toldAt); told > 0 {
+	s.lock.Unlock()
+	if told := s.toldAt.Load(); told > 0 {
 		status.ToldSince, status.HasTold = clock.Now()-time.Duration(told), true
 	}
-	if left := site.lease.Until() - clock.Now(); left > 0 {
+	if left := s.lease.Until() - clock.Now(); left > 0 {
 		status.Lease = left
 	}
 	return status

@@ -6,24 +6,21 @@ package site
 
 import (
 	"bytes"
+	"errors"
 	"fmt"
 	"strconv"
 	"strings"
 
-	"ordup-node/internal/epoch"
-	"ordup-node/internal/exit"
-	"ordup-node/internal/script"
-	"ordup-node/internal/store"
+	"ordup.dev/ordup/answer"
+
+	"ordup.dev/node/internal/epoch"
+	"ordup.dev/node/internal/exit"
+	"ordup.dev/node/internal/script"
+	"ordup.dev/node/internal/store"
 )
 
 // feed is how many updates the own store of a site has under way: the capacity that it declares.
 const feed = 1024
-
-// A Value is an object with its value.
-type Value struct {
-	Name  string
-	Value int64
-}
 
 // Shown is what a site shows after so many entries. Nobody changes it.
 type Shown struct {
@@ -31,8 +28,8 @@ type Shown struct {
 	Entry, Epoch, Place int64
 	// Told is how many updates the script says that the site has told.
 	Told int64
-	// Values are in the order of their declarations.
-	Values []Value
+	// Values are those of all objects.
+	Values map[string]int64
 	// Limits are those of the site, as `count 3`.
 	Limits []string
 	// Digest is that of the entry, as the engine has it.
@@ -45,8 +42,8 @@ type LeftError struct {
 	Epoch int64
 }
 
-func (err *LeftError) Error() string {
-	return fmt.Sprintf("the script has no site %s in epoch %d", err.Site, err.Epoch)
+func (e *LeftError) Error() string {
+	return fmt.Sprintf("the script has no site %s in epoch %d", e.Site, e.Epoch)
 }
 
 // ExitStatus is that of a process which meets it.
@@ -76,222 +73,224 @@ func NewReplica(open store.Open, versions []string, name string, first int64) *R
 }
 
 // Close gives the store back.
-func (replica *Replica) Close() {
-	if replica.store != nil {
-		replica.store.Close()
-		replica.store = nil
+func (r *Replica) Close() {
+	if r.store != nil {
+		r.store.Close()
+		r.store = nil
 	}
 }
 
 // Next is the number of the entry that comes next.
-func (replica *Replica) Next() int64 { return replica.entry + 1 }
+func (r *Replica) Next() int64 { return r.entry + 1 }
 
 // Epoch is the epoch, or 0 before the first one.
-func (replica *Replica) Epoch() int64 { return replica.epoch }
+func (r *Replica) Epoch() int64 { return r.epoch }
 
 // Replay runs an entry. A LeftError says that no reader may be served any more.
-func (replica *Replica) Replay(number int64, entry *script.Entry) error {
-	if number != replica.entry+1 {
-		return &epoch.GapError{Number: replica.entry + 1, Instead: number}
+func (r *Replica) Replay(number int64, entry *script.Entry) error {
+	if number != r.entry+1 {
+		return &epoch.GapError{Number: r.entry + 1, Instead: number}
 	}
-	if !isIn(entry.Ordup, replica.versions) {
-		return &epoch.VersionError{Number: number, Version: entry.Ordup, Supported: replica.versions}
+	if !epoch.Runs(r.versions, entry.Ordup) {
+		return &epoch.VersionError{Number: number, Version: entry.Ordup, Supported: r.versions}
 	}
-	if entry.Epoch != replica.epoch && entry.Epoch != replica.epoch+1 && replica.epoch > 0 {
-		return &epoch.BrokenError{Number: number, Why: fmt.Sprintf("it is of epoch %d after %d", entry.Epoch, replica.epoch)}
+	if entry.Epoch != r.epoch && entry.Epoch != r.epoch+1 && r.epoch > 0 {
+		return &epoch.BrokenError{Number: number, Why: fmt.Sprintf("it is of epoch %d after %d", entry.Epoch, r.epoch)}
 	}
-	if err := replica.judge.Take(number, entry); err != nil {
+	if err := r.judge.Take(number, entry); err != nil {
 		return err
 	}
 	if entry.Begins() {
-		if err := replica.begin(number, entry); err != nil {
+		if err := r.begin(number, entry); err != nil {
 			return err
 		}
 	}
-	replica.entry = number
-	if err := replica.propose(entry); err != nil {
+	r.entry = number
+	if err := r.propose(entry); err != nil {
 		return err
 	}
-	return replica.heed(entry)
-}
-
-func isIn(word string, words []string) bool {
-	for _, other := range words {
-		if word == other {
-			return true
-		}
-	}
-	return false
+	return r.heed(entry)
 }
 
 // begin begins an epoch. Its values must be those that the epoch before ended with here.
-func (replica *Replica) begin(number int64, entry *script.Entry) error {
-	before, err := replica.values()
+func (r *Replica) begin(number int64, entry *script.Entry) error {
+	before, err := r.values()
 	if err != nil {
 		return err
 	}
-	replica.Close()
-	if replica.store, err = replica.open(); err != nil {
-		return err
+	r.Close()
+	r.store, err = r.open()
+	if err != nil {
+		return fmt.Errorf("begin the epoch %d: %w", entry.Epoch, err)
 	}
-	replica.epoch, replica.place, replica.told, replica.sites, replica.limits = entry.Epoch, 0, 0, map[string]bool{}, []string{}
+	r.epoch, r.place, r.told, r.sites, r.limits = entry.Epoch, 0, 0, map[string]bool{}, []string{}
 	lines := []byte{}
 	for at := range entry.Steps {
-		words := strings.Fields(entry.Steps[at].Text)
+		step := &entry.Steps[at]
+		words := strings.Fields(step.Words)
 		switch {
-		case entry.Steps[at].Kind != script.Declare || len(words) < 3:
+		case step.Kind != script.Declare || len(words) < 3:
 		case words[0] == "site":
-			replica.sites[words[1]] = true
-		case words[0] == "limit" && words[1] == replica.name:
-			replica.limits = append(replica.limits, strings.Join(words[2:], " "))
+			r.sites[words[1]] = true
+		case words[0] == "limit" && words[1] == r.name:
+			r.limits = append(r.limits, strings.Join(words[2:], " "))
 		case words[0] == "object":
-			lines = append(append(lines, entry.Steps[at].Text...), '\n')
-			for _, value := range before {
-				if value.Name == words[1] && strconv.FormatInt(value.Value, 10) != words[2] {
-					return &epoch.BrokenError{Number: number, Why: fmt.Sprintf("%s begins with %s, and had %d here", words[1], words[2], value.Value)}
-				}
+			lines = step.AppendLines(lines)
+			if value, isThere := before[words[1]]; isThere && strconv.FormatInt(value, 10) != words[2] {
+				return &epoch.BrokenError{Number: number, Why: fmt.Sprintf("%s begins with %s, and had %d here", words[1], words[2], value)}
 			}
 		}
 	}
-	lines = append(lines, fmt.Sprintf("site %s %d\nstart\n", replica.name, feed)...)
-	return replica.run(lines, func(answer []byte) bool { return bytes.HasPrefix(answer, []byte("ok ")) })
+	lines = append(lines, fmt.Sprintf("site %s %d\nstart\n", r.name, feed)...)
+	return r.run(lines, isDone)
+}
+
+// isDone is whether an answer is no refusal.
+func isDone(given answer.Answer) bool {
+	_, isRefused := given.(*answer.Refused)
+	return !isRefused
 }
 
 // run runs lines, each of whose answers must be as it is looked for.
-func (replica *Replica) run(lines []byte, isRight func([]byte) bool) error {
-	if replica.store == nil {
-		return &epoch.BrokenError{Number: replica.entry, Why: "it comes before the beginning of its epoch"}
+func (r *Replica) run(lines []byte, isRight func(answer.Answer) bool) error {
+	if r.store == nil {
+		return &epoch.BrokenError{Number: r.entry, Why: "it comes before the beginning of its epoch"}
 	}
-	answers, err := replica.store.Run(lines)
+	answers, err := r.answers(lines)
 	if err != nil {
 		return err
 	}
-	count := 0
-	for len(answers) > 0 {
-		end := bytes.IndexByte(answers, '\n')
-		if end < 0 || !isRight(answers[:end]) {
-			return &epoch.BrokenError{Number: replica.entry, Why: fmt.Sprintf("the store of this site answers %.80q", answers)}
+	for _, given := range answers {
+		if !isRight(given) {
+			return &epoch.BrokenError{Number: r.entry, Why: fmt.Sprintf("the store of this site answers %T %+v", given, given)}
 		}
-		answers, count = answers[end+1:], count+1
 	}
-	if count != bytes.Count(lines, []byte{'\n'}) {
-		return &epoch.BrokenError{Number: replica.entry, Why: fmt.Sprintf("the store of this site gives %d answers", count)}
+	if len(answers) != bytes.Count(lines, []byte{'\n'}) {
+		return &epoch.BrokenError{Number: r.entry, Why: fmt.Sprintf("the store of this site gives %d answers", len(answers))}
 	}
 	return nil
 }
 
+// answers asks the store. What is none of its answers is not of this script.
+func (r *Replica) answers(lines []byte) ([]answer.Answer, error) {
+	answers, err := r.store.Answers(lines)
+	var unknown *answer.UnknownError
+	switch {
+	case err == nil:
+		return answers, nil
+	case errors.As(err, &unknown):
+		return nil, &epoch.BrokenError{Number: r.entry, Why: unknown.Error()}
+	}
+	return nil, fmt.Errorf("run the lines of the entry %d: %w", r.entry, err)
+}
+
 // propose runs the requests of an entry. Those that the primary refused are refused here, since the values are the same.
-func (replica *Replica) propose(entry *script.Entry) error {
-	replica.text = replica.text[:0]
+func (r *Replica) propose(entry *script.Entry) error {
+	r.text = r.text[:0]
 	for at := range entry.Steps {
 		if entry.Steps[at].Kind == script.Ask {
-			replica.text = entry.Steps[at].AppendLines(replica.text)
+			r.text = entry.Steps[at].AppendLines(r.text)
 		}
 	}
-	if len(replica.text) == 0 {
+	if len(r.text) == 0 {
 		return nil
 	}
 	refused := refusals(entry.Answers())
 	updates := int64(0)
-	err := replica.run(replica.text, func(answer []byte) bool {
-		if bytes.HasPrefix(answer, []byte("ok proposed ")) {
+	err := r.run(r.text, func(given answer.Answer) bool {
+		switch given := given.(type) {
+		case answer.Proposed:
 			updates++
 			return true
+		case *answer.Refused:
+			isSame := len(refused) > 0 && refused[0] == epoch.RefusalOf(given)
+			if isSame {
+				refused = refused[1:]
+			}
+			return isSame
 		}
-		isSame := len(refused) > 0 && refused[0] == string(answer)
-		if isSame {
-			refused = refused[1:]
-		}
-		return isSame
+		return false
 	})
 	if err == nil && len(refused) > 0 {
-		err = &epoch.BrokenError{Number: replica.entry, Why: fmt.Sprintf("the store of this site does not answer %.80q", refused[0])}
+		err = &epoch.BrokenError{Number: r.entry, Why: fmt.Sprintf("the store of this site does not refuse as %s", refused[0].Name)}
 	}
 	if err != nil {
 		return err
 	}
-	return replica.apply(updates)
+	return r.apply(updates)
 }
 
-func refusals(answers []script.Step) []string {
-	refused := []string{}
+// refusals are those among the answers of an entry.
+func refusals(answers []script.Step) []script.Refusal {
+	refused := []script.Refusal{}
 	for at := range answers {
-		if strings.HasPrefix(answers[at].Text, "refused ") {
-			refused = append(refused, answers[at].Text)
+		if answers[at].Answer.IsRefused() {
+			refused = append(refused, answers[at].Answer.Refusal)
 		}
 	}
 	return refused
 }
 
 // apply applies updates, as many at once as the feed has room for.
-func (replica *Replica) apply(updates int64) error {
+func (r *Replica) apply(updates int64) error {
 	for updates > 0 {
 		some := updates
 		if some > feed {
 			some = feed
 		}
-		replica.text = replica.text[:0]
+		r.text = r.text[:0]
 		for _, kind := range []string{"send ", "apply "} {
 			for count := int64(0); count < some; count++ {
-				replica.text = append(append(append(replica.text, kind...), replica.name...), '\n')
+				r.text = append(append(append(r.text, kind...), r.name...), '\n')
 			}
 		}
-		if err := replica.run(replica.text, func(answer []byte) bool { return bytes.HasPrefix(answer, []byte("ok ")) }); err != nil {
+		if err := r.run(r.text, isDone); err != nil {
 			return err
 		}
-		replica.place, updates = replica.place+some, updates-some
+		r.place, updates = r.place+some, updates-some
 	}
 	return nil
 }
 
 // heed looks whether the site is still among those of the script, and what it has told.
-func (replica *Replica) heed(entry *script.Entry) error {
+func (r *Replica) heed(entry *script.Entry) error {
 	for at := range entry.Steps {
 		step := &entry.Steps[at]
 		switch {
 		case step.Kind == script.Leave:
-			delete(replica.sites, step.Name)
-		case step.Kind == script.Tell && step.Name == replica.name:
-			replica.told += step.Count
+			delete(r.sites, step.Site)
+		case step.Kind == script.Tell && step.Site == r.name:
+			r.told += step.Count
 		}
 	}
-	if replica.epoch > 0 && !replica.sites[replica.name] {
-		return &LeftError{replica.name, replica.epoch}
+	if r.epoch > 0 && !r.sites[r.name] {
+		return &LeftError{r.name, r.epoch}
 	}
 	return nil
 }
 
 // Show gives what the site shows, or nil before the first epoch.
-func (replica *Replica) Show() (*Shown, error) {
-	values, err := replica.values()
-	if err != nil || replica.store == nil {
+func (r *Replica) Show() (*Shown, error) {
+	values, err := r.values()
+	if err != nil || r.store == nil {
 		return nil, err
 	}
-	return &Shown{Entry: replica.entry, Epoch: replica.epoch, Place: replica.place, Told: replica.told, Values: values, Limits: replica.limits}, nil
+	return &Shown{Entry: r.entry, Epoch: r.epoch, Place: r.place, Told: r.told, Values: values, Limits: r.limits}, nil
 }
 
-// values reads what the store shows: `ok show SITE sent A applied B reported C rounds D X=V ..`.
-func (replica *Replica) values() ([]Value, error) {
-	if replica.store == nil {
+// values are those that the store shows.
+func (r *Replica) values() (map[string]int64, error) {
+	if r.store == nil {
 		return nil, nil
 	}
-	answer, err := replica.store.Run([]byte("show " + replica.name + "\n"))
+	answers, err := r.answers([]byte("show " + r.name + "\n"))
 	if err != nil {
 		return nil, err
 	}
-	const before = 11
-	words := strings.Fields(string(answer))
-	if len(words) < before || words[0] != "ok" || words[6] != strconv.FormatInt(replica.place, 10) {
-		return nil, &epoch.BrokenError{Number: replica.entry, Why: fmt.Sprintf("the store of this site shows %.80q", answer)}
-	}
-	values := make([]Value, 0, len(words)-before)
-	for _, word := range words[before:] {
-		name, text, _ := strings.Cut(word, "=")
-		value, err := strconv.ParseInt(text, 10, 64)
-		if err != nil {
-			return nil, &epoch.BrokenError{Number: replica.entry, Why: fmt.Sprintf("the store of this site shows %.80q", word)}
+	if len(answers) == 1 {
+		if shown, isShown := answers[0].(answer.Shown); isShown && int64(shown.Applied) == r.place {
+			return shown.Values, nil
 		}
-		values = append(values, Value{name, value})
 	}
-	return values, nil
+	return nil, &epoch.BrokenError{Number: r.entry, Why: fmt.Sprintf("the store of this site shows %+v", answers)}
 }

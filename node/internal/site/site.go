@@ -9,13 +9,14 @@ import (
 	"sync/atomic"
 	"time"
 
-	"ordup-node/internal/clock"
-	"ordup-node/internal/engine"
-	"ordup-node/internal/epoch"
-	"ordup-node/internal/exit"
-	"ordup-node/internal/logs"
-	"ordup-node/internal/script"
-	"ordup-node/internal/store"
+	"ordup.dev/node/internal/clock"
+	"ordup.dev/node/internal/engine"
+	"ordup.dev/node/internal/epoch"
+	"ordup.dev/node/internal/exit"
+	"ordup.dev/node/internal/follower"
+	"ordup.dev/node/internal/logs"
+	"ordup.dev/node/internal/script"
+	"ordup.dev/node/internal/store"
 )
 
 const (
@@ -54,28 +55,34 @@ type Site struct {
 	config Config
 	inName string
 	lease  *engine.Lease
-	// What is shown, and from which entry on it may be told in which term of the lease. Changed is closed with each change. Taken is the last
-	// term in which a place was taken: from then on it is served.
-	lock    sync.Mutex
+	// How many readers were served, and when a place was taken last.
+	readers atomic.Int64
+	toldAt  atomic.Int64
+
+	// What stands below lock up to the blank line is under it.
+	lock sync.Mutex
+	// What is shown, and since when. Changed is closed with each change.
 	shown   *Shown
 	shownAt time.Duration
 	changed chan struct{}
 	// The readers that wait, with what they have seen.
 	waiting map[chan struct{}]Seen
-	first   int64
-	term    engine.Term
-	taken   engine.Term
-	readers int64
-	toldAt  int64
-	replica *Replica
-	mark    engine.Mark
-	// The last entry that there was when the process first asked. From there on it wants the lease.
-	end int64
+	// From which entry on it may be told in which term of the lease, and the last term in which a place was taken: from then on it is served.
+	first int64
+	term  engine.Term
+	taken engine.Term
+
+	// Of the goroutine of Run alone: what was run, and the last entry that there was when the process first asked. From there on it wants
+	// the lease.
+	follower follower.Follower
+	replica  *Replica
+	end      int64
 }
 
 // New gives a site, which Run runs.
 func New(config Config) (*Site, error) {
 	site := &Site{config: config, inName: config.Fleet, changed: make(chan struct{}), waiting: map[chan struct{}]Seen{}}
+	site.follower = follower.Follower{Engine: config.Engine, Log: config.Log, Pause: afterFailure}
 	if site.inName == "" {
 		site.inName = config.Name
 	}
@@ -91,52 +98,54 @@ func New(config Config) (*Site, error) {
 }
 
 // mayServe says from which entry on places are told and readers served. The process before has told no place after this one.
-func (site *Site) mayServe(ctx context.Context, term engine.Term) error {
-	site.lock.Lock()
+func (s *Site) mayServe(ctx context.Context, term engine.Term) error {
+	s.lock.Lock()
 	next := int64(1)
-	if site.shown != nil {
-		next = site.shown.Entry + 1
+	if s.shown != nil {
+		next = s.shown.Entry + 1
 	}
-	site.lock.Unlock()
-	last, err := site.config.Engine.Last(ctx, next)
-	site.lock.Lock()
-	defer site.lock.Unlock()
-	if err == nil {
-		site.first, site.term = last, term
+	s.lock.Unlock()
+	last, err := s.config.Engine.Last(ctx, next)
+	if err != nil {
+		return fmt.Errorf("read the end of the script: %w", err)
 	}
-	return err
+	s.lock.Lock()
+	defer s.lock.Unlock()
+	s.first, s.term = last, term
+	return nil
 }
 
 // Run follows the script and serves, until the context ends or an error ends the process. Then the lease is given back.
-func (site *Site) Run(ctx context.Context) error {
+func (s *Site) Run(ctx context.Context) error {
+	// It ends once nothing is shown any more, so that the lease is given back last.
 	beside, cancel := context.WithCancel(context.Background())
 	var others sync.WaitGroup
 	defer others.Wait()
 	defer cancel()
-	defer site.forget()
-	defer site.show(nil)
+	defer s.forget()
+	defer s.show(nil)
 	failed := make(chan error, 1)
 	following, stop := context.WithCancel(ctx)
 	defer stop()
 	others.Add(1)
 	go func() {
 		defer others.Done()
-		if err := site.tellAll(beside); err != nil {
+		if err := s.tellAll(beside); err != nil {
 			failed <- err
 			stop()
 		}
 	}()
 	isLeased := false
 	for following.Err() == nil {
-		err := site.follow(following, func() {
+		err := s.follow(following, func() {
 			if isLeased {
 				return
 			}
 			isLeased = true
 			others.Add(1)
-			go func() { defer others.Done(); site.lease.Run(beside) }()
+			go func() { defer others.Done(); s.lease.Run(beside) }()
 		})
-		if err = site.heed(following, err); err != nil {
+		if err = s.follower.Heed(following, err, s.forget); err != nil {
 			return err
 		}
 	}
@@ -148,112 +157,87 @@ func (site *Site) Run(ctx context.Context) error {
 	}
 }
 
-// heed is whether an error ends the process.
-func (site *Site) heed(ctx context.Context, err error) error {
-	switch {
-	case err == nil || ctx.Err() != nil:
-		return nil
-	case engine.IsAway(err):
-		site.config.Log.Warn("engine-away", "why", err)
-		clock.Pause(ctx, afterFailure)
-		return nil
-	case errors.Is(err, engine.ErrLaterEpoch):
-		site.config.Log.Info("runs-again", "why", err)
-		site.forget()
-		return nil
-	}
-	return err
-}
-
 // forget drops what was run.
-func (site *Site) forget() {
-	if site.replica != nil {
-		site.replica.Close()
+func (s *Site) forget() {
+	if s.replica != nil {
+		s.replica.Close()
 	}
-	site.replica, site.mark = nil, engine.Mark{}
+	s.replica, s.follower.Mark = nil, engine.Mark{}
 }
 
 // follow runs and shows the script as it comes. It says once that the site has reached the end that there was at first.
-func (site *Site) follow(ctx context.Context, reached func()) error {
-	if err := site.start(ctx); err != nil {
+func (s *Site) follow(ctx context.Context, reached func()) error {
+	if err := s.start(ctx); err != nil {
 		return err
 	}
-	err := site.config.Engine.Follow(ctx, site.replica.Next(), func(entries []engine.Raw) error {
+	return s.follower.Follow(ctx, s.replica.Next(), func(entries []engine.Raw) error {
 		for _, raw := range entries {
-			if err := site.run(raw); err != nil {
+			if err := s.run(raw); err != nil {
 				return err
 			}
 		}
-		shown, err := site.replica.Show()
+		shown, err := s.replica.Show()
 		if err != nil {
 			return err
 		}
 		if shown != nil {
-			shown.Digest = site.mark.Digest().String()
+			shown.Digest = s.follower.Mark.Digest().String()
 		}
-		site.show(shown)
-		if shown != nil && shown.Entry >= site.end {
+		s.show(shown)
+		if shown != nil && shown.Entry >= s.end {
 			reached()
 		}
 		return nil
 	})
-	var gap *epoch.GapError
-	if errors.As(err, &gap) {
-		return site.config.Engine.WhyGap(ctx, gap.Number, err)
-	}
-	return err
 }
 
-func (site *Site) run(raw engine.Raw) error {
-	entry, err := epoch.Parse(raw.Number, raw.Text)
-	if err != nil {
+func (s *Site) run(raw engine.Raw) error {
+	begun := s.replica.Epoch()
+	if _, err := s.follower.Run(s.replica, raw); err != nil {
 		return err
 	}
-	begun := site.replica.Epoch()
-	if err = site.replica.Replay(raw.Number, entry); err != nil {
-		return err
-	}
-	site.mark.Set(raw.Number, raw.Text)
-	if site.replica.Epoch() > begun {
-		site.config.Log.Info("epoch", "epoch", site.replica.Epoch(), "entry", raw.Number)
+	if s.replica.Epoch() > begun {
+		s.config.Log.Info("epoch", "epoch", s.replica.Epoch(), "entry", raw.Number)
 	}
 	return nil
 }
 
 // start gives a replica before the last epoch, where there is none. Else it looks whether the script still has what was run.
-func (site *Site) start(ctx context.Context) error {
-	first, err := site.config.Engine.Resume(ctx, &site.mark)
-	if err != nil || site.replica != nil {
+func (s *Site) start(ctx context.Context) error {
+	first, err := s.follower.Start(ctx)
+	if err != nil || s.replica != nil {
 		return err
 	}
-	if site.end, err = site.config.Engine.Last(ctx, first); err == nil {
-		site.replica = NewReplica(site.config.Open, site.config.Versions, site.inName, first)
+	s.end, err = s.config.Engine.Last(ctx, first)
+	if err != nil {
+		return fmt.Errorf("read the end of the script: %w", err)
 	}
-	return err
+	s.replica = NewReplica(s.config.Open, s.config.Versions, s.inName, first)
+	return nil
 }
 
 // show shows values to readers, if they are served. It wakes those that waited for them.
-func (site *Site) show(shown *Shown) {
-	site.lock.Lock()
-	defer site.lock.Unlock()
-	site.shown, site.shownAt = shown, clock.Now()
-	close(site.changed)
-	site.changed = make(chan struct{})
-	for came, seen := range site.waiting {
+func (s *Site) show(shown *Shown) {
+	s.lock.Lock()
+	defer s.lock.Unlock()
+	s.shown, s.shownAt = shown, clock.Now()
+	close(s.changed)
+	s.changed = make(chan struct{})
+	for came, seen := range s.waiting {
 		if shown == nil || shown.covers(seen) {
 			close(came)
-			delete(site.waiting, came)
+			delete(s.waiting, came)
 		}
 	}
 }
 
 // tellAll tells places that were shown under the lease, until the context ends. One that is refused for good ends the process.
-func (site *Site) tellAll(ctx context.Context) error {
+func (s *Site) tellAll(ctx context.Context) error {
 	var told epoch.Place
 	for ctx.Err() == nil {
-		relies := site.lease.Changed()
-		now := site.now()
-		isDue, again := site.isDue(now.shown, &told)
+		relies := s.lease.Changed()
+		now := s.now()
+		isDue, again := s.isDue(now.shown, &told)
 		if !isDue && (now.shown == nil || now.isTaken) {
 			timer := time.NewTimer(again)
 			select {
@@ -265,23 +249,23 @@ func (site *Site) tellAll(ctx context.Context) error {
 			timer.Stop()
 			continue
 		}
-		place := site.placeOf(now.shown)
-		switch err := site.tell(ctx, place); {
+		place := s.placeOf(now.shown)
+		switch err := s.tell(ctx, place); {
 		case err == nil:
 			told = place
-			site.wasTaken(now.term)
+			s.wasTaken(now.term)
 		case isRefused(err):
 			return err
 		case ctx.Err() == nil:
-			site.config.Log.Warn("place-not-told", "why", err)
+			s.config.Log.Warn("place-not-told", "why", err)
 			clock.Pause(ctx, afterFailure)
 		}
 	}
 	return nil
 }
 
-func (site *Site) placeOf(shown *Shown) epoch.Place {
-	return epoch.Place{Site: site.inName, Member: site.config.Name, Epoch: shown.Epoch, Applied: shown.Place, Entry: shown.Entry,
+func (s *Site) placeOf(shown *Shown) epoch.Place {
+	return epoch.Place{Site: s.inName, Member: s.config.Name, Epoch: shown.Epoch, Applied: shown.Place, Entry: shown.Entry,
 		Digest: shown.Digest}
 }
 
@@ -292,19 +276,19 @@ func isRefused(err error) bool {
 }
 
 // wasTaken notes that a place was taken which was told in a term.
-func (site *Site) wasTaken(term engine.Term) {
-	atomic.StoreInt64(&site.toldAt, int64(clock.Now()))
-	site.lock.Lock()
-	defer site.lock.Unlock()
-	site.taken = term
+func (s *Site) wasTaken(term engine.Term) {
+	s.toldAt.Store(int64(clock.Now()))
+	s.lock.Lock()
+	defer s.lock.Unlock()
+	s.taken = term
 }
 
 // isDue is whether what is shown is to be told now, after what was told last, and else after how long it may be.
-func (site *Site) isDue(shown *Shown, told *epoch.Place) (isDue bool, again time.Duration) {
+func (s *Site) isDue(shown *Shown, told *epoch.Place) (isDue bool, again time.Duration) {
 	if shown == nil {
 		return false, tellAgain
 	}
-	since := clock.Now() - time.Duration(atomic.LoadInt64(&site.toldAt))
+	since := clock.Now() - time.Duration(s.toldAt.Load())
 	isNew := shown.Epoch > told.Epoch || shown.Epoch == told.Epoch && shown.Place > told.Applied
 	switch {
 	case isNew && shown.isFar():
@@ -315,8 +299,8 @@ func (site *Site) isDue(shown *Shown, told *epoch.Place) (isDue bool, again time
 	return isNew || since >= tellStill, tellStill - since
 }
 
-func (site *Site) tell(ctx context.Context, place epoch.Place) error {
+func (s *Site) tell(ctx context.Context, place epoch.Place) error {
 	limited, cancel := context.WithTimeout(ctx, tellTime)
 	defer cancel()
-	return site.config.Teller.Tell(limited, place)
+	return s.config.Teller.Tell(limited, place)
 }

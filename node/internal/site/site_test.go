@@ -9,10 +9,10 @@ import (
 	"testing"
 	"time"
 
-	"ordup-node/internal/clock"
-	"ordup-node/internal/engine"
-	"ordup-node/internal/epoch"
-	"ordup-node/internal/etcdtest"
+	"ordup.dev/node/internal/clock"
+	"ordup.dev/node/internal/engine"
+	"ordup.dev/node/internal/epoch"
+	"ordup.dev/node/internal/etcdtest"
 )
 
 type nowhere struct{}
@@ -67,17 +67,17 @@ type listener struct {
 	places []epoch.Place
 }
 
-func (listener *listener) Tell(_ context.Context, place epoch.Place) error {
-	listener.lock.Lock()
-	defer listener.lock.Unlock()
-	listener.places = append(listener.places, place)
+func (l *listener) Tell(_ context.Context, place epoch.Place) error {
+	l.lock.Lock()
+	defer l.lock.Unlock()
+	l.places = append(l.places, place)
 	return nil
 }
 
-func (listener *listener) told() []epoch.Place {
-	listener.lock.Lock()
-	defer listener.lock.Unlock()
-	return append([]epoch.Place{}, listener.places...)
+func (l *listener) told() []epoch.Place {
+	l.lock.Lock()
+	defer l.lock.Unlock()
+	return append([]epoch.Place{}, l.places...)
 }
 
 // A process that follows the script without the lease tells nothing. Another one may serve readers, and has not shown as much.
@@ -133,18 +133,20 @@ func TestWhenAPlaceIsTold(t *testing.T) {
 		{[]string{"count 3"}, 9, 9, false, time.Second, false, tellStill},
 		{nil, 9, 9, false, tellStill, true, 0},
 	} {
-		shown, told := &Shown{Epoch: 1, Place: row.place, Told: row.told, Limits: row.limits}, &epoch.Place{Epoch: 1, Applied: row.place}
-		if row.isNew {
-			told.Applied--
-		}
-		site.toldAt = int64(clock.Now() - row.since)
-		isDue, again := site.isDue(shown, told)
-		if isDue != row.isDue || !isDue && (again > row.again-row.since || again < row.again-row.since-time.Second/50) {
-			t.Errorf("%v: %v, %v", row, isDue, again)
-		}
+		t.Run(fmt.Sprint(row), func(t *testing.T) {
+			shown, told := &Shown{Epoch: 1, Place: row.place, Told: row.told, Limits: row.limits}, &epoch.Place{Epoch: 1, Applied: row.place}
+			if row.isNew {
+				told.Applied--
+			}
+			site.toldAt.Store(int64(clock.Now() - row.since))
+			isDue, again := site.isDue(shown, told)
+			if isDue != row.isDue || !isDue && (again > row.again-row.since || again < row.again-row.since-time.Second/50) {
+				t.Errorf("%v: %v, %v", row, isDue, again)
+			}
+		})
 	}
 	isDue, again := site.isDue(nil, &epoch.Place{})
-	is(t, []interface{}{false, tellAgain}, []interface{}{isDue, again})
+	is(t, []any{false, tellAgain}, []any{isDue, again})
 }
 
 // While many entries come, a site without limits tells some places, and the last one soon.
@@ -190,7 +192,7 @@ func TestAReaderSeesNoLessThanBefore(t *testing.T) {
 	site.wasTaken(1)
 	for _, seen := range []Seen{{}, {1, 99}, {2, 5}} {
 		reading, err := site.Read(ctx, seen)
-		is(t, []interface{}{5, nil}, []interface{}{reading.Place, err})
+		is(t, []any{5, nil}, []any{reading.Place, err})
 	}
 	short, cancelShort := context.WithTimeout(ctx, 20*time.Millisecond)
 	defer cancelShort()
@@ -201,7 +203,7 @@ func TestAReaderSeesNoLessThanBefore(t *testing.T) {
 	is(t, true, errors.As(err, &behind) && behind.Has == Seen{2, 5})
 	_, err = site.Read(short, Seen{3, 0})
 	is(t, true, errors.As(err, &behind) && behind.Has == Seen{2, 5})
-	read := make(chan interface{}, 2)
+	read := make(chan any, 2)
 	ask := func(seen Seen) {
 		waits := func() int { site.lock.Lock(); defer site.lock.Unlock(); return len(site.waiting) }
 		before := waits()

@@ -10,10 +10,10 @@ import (
 	"testing"
 	"time"
 
-	"ordup-node/internal/engine"
-	"ordup-node/internal/epoch"
-	"ordup-node/internal/etcdtest"
-	"ordup-node/internal/exit"
+	"ordup.dev/node/internal/engine"
+	"ordup.dev/node/internal/epoch"
+	"ordup.dev/node/internal/etcdtest"
+	"ordup.dev/node/internal/exit"
 )
 
 // A shop is a script in an engine, and how it is written on.
@@ -33,30 +33,30 @@ func newShop(t *testing.T) *shop {
 }
 
 // put writes the turns, and puts what is new of the script into the engine.
-func (shop *shop) put() {
-	shop.t.Helper()
-	shop.write()
-	for ; shop.count < len(shop.entries); shop.count++ {
-		is(shop.t, nil, shop.writer.Write(shop.ctx, &engine.Write{Number: int64(shop.count + 1), Text: shop.entries[shop.count].Text(), Epoch: 1, First: 1}))
+func (s *shop) put() {
+	s.t.Helper()
+	s.write()
+	for ; s.count < len(s.entries); s.count++ {
+		is(s.t, nil, s.writer.Write(s.ctx, &engine.Write{Number: int64(s.count + 1), Text: s.entries[s.count].Text(), Epoch: 1, First: 1}))
 	}
 }
 
 // north gives a process of the site north, which asks an engine and tells a teller.
-func (shop *shop) north(host string, asked *engine.Engine, teller Teller) *Site {
-	shop.t.Helper()
+func (s *shop) north(host string, asked *engine.Engine, teller Teller) *Site {
+	s.t.Helper()
 	site, err := New(Config{Engine: asked, Open: openStore, Name: "north", Host: host, Versions: []string{"1"}, Teller: teller})
-	is(shop.t, nil, err)
+	is(s.t, nil, err)
 	return site
 }
 
 // hold has somebody else hold a key, until what it returns is called.
-func (shop *shop) hold(key string) (giveUp func()) {
-	shop.t.Helper()
-	lease := shop.members.Engine().NewLease(key, "before", nil, nil)
-	leased, cancel := context.WithCancel(shop.ctx)
+func (s *shop) hold(key string) (giveUp func()) {
+	s.t.Helper()
+	lease := s.members.Engine().NewLease(key, "before", nil, nil)
+	leased, cancel := context.WithCancel(s.ctx)
 	done := make(chan struct{})
 	go func() { lease.Run(leased); close(done) }()
-	until(shop.t, "nobody gets the key "+key, lease.Relies)
+	until(s.t, "nobody gets the key "+key, lease.Relies)
 	return func() { cancel(); <-done }
 }
 
@@ -106,11 +106,11 @@ type gate struct {
 	isShut int64
 }
 
-func (gate *gate) Tell(ctx context.Context, place epoch.Place) error {
-	if atomic.LoadInt64(&gate.isShut) > 0 {
+func (g *gate) Tell(ctx context.Context, place epoch.Place) error {
+	if atomic.LoadInt64(&g.isShut) > 0 {
 		return errors.New("no primary writes")
 	}
-	return gate.listener.Tell(ctx, place)
+	return g.listener.Tell(ctx, place)
 }
 
 // In each term of its lease a process serves readers once somebody has taken a place of it. Within a term it goes on, whoever is down.

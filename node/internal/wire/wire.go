@@ -76,6 +76,11 @@ const (
 	EpochPath  = "/epoch"
 	ValuePath  = "/value/"
 	ValuesPath = "/values"
+	// Of each process.
+	HealthPath  = "/healthz"
+	ReadyPath   = "/readyz"
+	NumbersPath = "/metrics"
+	PagePath    = "/"
 )
 
 // Headers of answers and requests.
@@ -167,27 +172,6 @@ type Values struct {
 	Showing
 }
 
-// An Error is an answer that is none. The names are in the table of the package.
-type Error struct {
-	Status  int    `json:"-"`
-	Name    string `json:"error"`
-	Message string `json:"message"`
-	Last    int64  `json:"last,omitempty"`
-	Refused int64  `json:"refused,omitempty"`
-	Refusal string `json:"refusal,omitempty"`
-	Writer  string `json:"writer,omitempty"`
-	Epoch   int64  `json:"epoch,omitempty"`
-	Place   int64  `json:"place,omitempty"`
-	Updates int64  `json:"updates,omitempty"`
-}
-
-func (err *Error) Error() string {
-	if err.Message == "" {
-		return err.Name
-	}
-	return err.Message
-}
-
 // SeenText is what a reader has seen, as it says it.
 func SeenText(epoch, place int64) string {
 	return strconv.FormatInt(epoch, 10) + "." + strconv.FormatInt(place, 10)
@@ -207,7 +191,7 @@ func ParseSeen(text string) (epoch, place int64, err error) {
 }
 
 // Read reads one value of JSON, and nothing else, into a struct that has a field for all that it has.
-func Read(from io.Reader, to interface{}) error {
+func Read(from io.Reader, to any) error {
 	decoder := json.NewDecoder(from)
 	decoder.DisallowUnknownFields()
 	if err := decoder.Decode(to); err != nil {
@@ -223,7 +207,7 @@ func Read(from io.Reader, to interface{}) error {
 }
 
 // Write writes a value as JSON and a line feed.
-func Write(to http.ResponseWriter, status int, value interface{}) {
+func Write(to http.ResponseWriter, status int, value any) {
 	text, err := json.Marshal(value)
 	if err != nil {
 		status, text = http.StatusInternalServerError, []byte(`{"error":"NoJSON"}`)

@@ -59,6 +59,7 @@ from typing import Any, Iterable, List, Mapping, Optional, Sequence, Type, TypeV
 
 from . import _answers, _cluster
 from ._cluster import *
+from ._cluster_library import find_clusters
 from ._library import InProcess, check_text, find
 from ._pipe import Pipe, Program, path_of
 from ._answers import *

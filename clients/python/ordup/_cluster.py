@@ -677,10 +677,10 @@ class _Names:
     def scope(self, scope: Scope) -> Tuple[int, int]:
         """The kind and the id of a scope."""
         kind, name = (scope, "") if isinstance(scope, str) else scope
-        if kind not in _SCOPES or isinstance(scope, str) and kind not in ("all", "count"):
+        if kind not in _SCOPES or isinstance(scope, str) != (kind in ("all", "count")):
             raise ValueError(f"{scope!r} is no scope")
-        ids = self.objects if kind == "object" else self.groups
-        return _SCOPES.index(kind), ids.get(name, _NONE) if name else 0
+        ids = {"object": self.objects, "group": self.groups}.get(kind, {"": 0})
+        return _SCOPES.index(kind), ids.get(name, _NONE)
 
     def scope_of(self, kind: int, id: int) -> Scope:
         if kind == 0:

@@ -1,0 +1,928 @@
+#!/usr/bin/env python3
+"""Tests the clusters of the module on the library: clients/python/test_cluster.py [PROGRAM] [--stand-in] [TEST..]
+
+Threads that propose, read and query, with the values that they must see; each exception; Ctrl-C, signals, forks and ends amid a call;
+memory, a cluster at rest, and the examples. PROGRAM is `ordup`, which then audits the records. With --stand-in the library is not the
+proved one, and what it lacks is not tried.
+"""
+
+import asyncio
+import contextlib
+import ctypes
+import doctest
+import faulthandler
+import gc
+import importlib.util
+import json
+import os
+import random
+import re
+import signal
+import subprocess
+import sys
+import tempfile
+import threading
+import time
+import unittest
+import urllib.error
+import urllib.request
+from concurrent.futures import ThreadPoolExecutor
+from pathlib import Path
+from unittest import mock
+
+if __name__ == "__main__":
+    sys.dont_write_bytecode = True
+
+import ordup
+from cases import TOP, TestCase
+from ordup import (
+    Behind, Cluster, Condition, Error, Forked, InUse, Lag, NotYet, Refused, Session, Site, Stopped, Unmet, Yes, add, at_least,
+    at_most, check, check_series, max_, min_, mul, set_, take,
+)
+from ordup import _cluster, _cluster_library
+
+HERE = Path(__file__).resolve().parent
+IS_STAND_IN = "--stand-in" in sys.argv
+SOON = 5.0
+real_only = unittest.skipIf(IS_STAND_IN, "groups, conditions that can be met, the numbers of sites and their lags, which the stand-in lacks")
+
+
+def interrupted_after(seconds):
+    """Ctrl-C for this process, after so many seconds."""
+    timer = threading.Timer(seconds, os.kill, [os.getpid(), signal.SIGINT])
+    timer.start()
+    return timer
+
+
+class ClusterCase(TestCase):
+    def forced(self, **options):
+        """A cluster whose site in the north is forced for each update."""
+        return Cluster(objects={"n": 0, "tea": 40}, sites={"north": Site(4, {"count": 0}), "south": 64}, **options)
+
+    @contextlib.contextmanager
+    def soon(self, least=0.0):
+        start = time.monotonic()
+        yield
+        self.assertLess(time.monotonic() - start, SOON)
+        self.assertGreaterEqual(time.monotonic() - start, least)
+
+    def raised(self, kind, call, *words, **options):
+        with self.assertRaises(kind) as caught:
+            call(*words, **options)
+        return caught.exception
+
+    def in_thread(self, work, *words, **options):
+        """What a call answers or raises in a thread, once that has ended."""
+        pool = ThreadPoolExecutor(1)
+        self.addCleanup(pool.shutdown)
+        return pool.submit(work, *words, **options)
+
+    def audited(self, *series):
+        """The records of a site, in order, are valid."""
+        program = TestCase.program or None
+        if not program and IS_STAND_IN:
+            return
+        for record in series:
+            self.assertIsInstance(check(record, program), Yes)
+        self.assertIsInstance(check_series(b"".join(series), program), Yes)
+
+
+class Threads(ClusterCase):
+    def test_reads_show_what_was_written_with_its_values(self):
+        # Each update adds 1 to n, so what a site holds is how many updates it has applied.
+        limit, callers, updates = 3, 4, 150
+        objects = {"n": 0, **{f"x{caller}": 0 for caller in range(callers)}}
+        sites = {"north": Site(4, {"count": limit}), "south": 64, "east": Site(1, {"all": 8}), "west": 16}
+        series = {site: [] for site in sites}
+
+        def work(cluster, caller, session, chance):
+            mine = f"x{caller}"
+            for _ in range(updates):
+                number = cluster.propose(session, {"n": add(1), mine: add(1)})
+                self.assertEqual(session.seen, max(session.seen, number))
+                site, seen = chance.choice(list(sites)), session.seen
+                (values, applied) = cluster.read_many(session, site, ["n", mine], timeout=SOON)
+                self.assertGreaterEqual(applied, max(seen, number))
+                self.assertEqual(values["n"], applied)
+                self.assertEqual(session.seen, applied)
+                written[caller] += 1
+                self.assertEqual(values[mine], written[caller])
+                with contextlib.suppress(Behind):
+                    value, applied = cluster.read(session, chance.choice(list(sites)), "n")
+                    self.assertGreaterEqual(applied, session.seen)
+                    self.assertEqual(value, applied)
+                if chance.random() < 0.2:
+                    with cluster.query(chance.choice(list(sites)), limit=6) as query:
+                        with contextlib.suppress(Refused):
+                            value, imported, total = query.read("n")
+                            self.assertEqual(imported, total)
+                            self.assertLessEqual(abs(value - query.end().place), imported)
+                        self.assertLessEqual(query.end().total, 6)
+                if chance.random() < 0.05:
+                    with contextlib.suppress(Refused):
+                        cluster.relimit("west", "count", chance.choice([2, 20]))
+
+        def watch(cluster):
+            while not ended.wait(0.001):
+                acknowledged = cluster.numbers().acknowledged
+                self.assertGreaterEqual(cluster.read(Session(), "north", "n").applied, acknowledged - limit)
+
+        sessions, written = [Session() for _ in range(callers)], [0] * callers
+        following = Cluster(objects=objects, sites=sites)
+        for epoch in range(2):
+            ended = threading.Event()
+            with following as cluster, ThreadPoolExecutor(callers + 1) as pool:
+                watcher = pool.submit(watch, cluster)
+                works = [pool.submit(work, cluster, it, sessions[it], random.Random(epoch * 10 + it)) for it in range(callers)]
+                try:
+                    for it in works:
+                        it.result(60)
+                finally:
+                    ended.set()
+                watcher.result(60)
+                cluster.finish(SOON)
+            closed = cluster.close()
+            total = (epoch + 1) * callers * updates
+            self.assertEqual(closed.numbers(), (epoch * callers * updates, total, total))
+            for site, record in closed.records().items():
+                self.assertEqual(cluster.read(Session(), site, "n"), (total, total))
+                series[site].append(record)
+            following = closed.successor()
+        for records in series.values():
+            self.audited(*records)
+
+    def test_who_waits_is_woken_at_once(self):
+        with self.forced() as cluster:
+            session = Session()
+            start = time.monotonic()
+            for _ in range(200):
+                cluster.propose(session, {"n": add(1)})
+                cluster.read(session, "south", "n", timeout=None)
+            self.assertLess(time.monotonic() - start, SOON)
+
+    def test_a_cluster_at_rest_takes_nothing(self):
+        with self.forced() as cluster:
+            cluster.propose(Session(), {"n": add(1)})
+            cluster.finish()
+            waiting = self.in_thread(cluster.read_when_level, Session(99), "south", "n")
+            time.sleep(0.05)
+            start = time.process_time()
+            time.sleep(0.5)
+            self.assertLess(time.process_time() - start, 0.02)
+            cluster.stop()
+            self.assertEqual(self.raised(Behind, waiting.result, SOON).applied, 1)
+
+    def test_other_threads_run_while_a_call_waits(self):
+        cluster, turns = self.forced(), 0
+        waiting = self.in_thread(cluster.propose, Session(), {"n": add(1)}, timeout=0.5)
+        while not waiting.done():
+            turns += 1
+            time.sleep(0.001)
+        self.assertGreater(turns, 50)
+        self.assertEqual(self.raised(NotYet, waiting.result).number, 1)
+
+
+class Calls(ClusterCase):
+    def test_each_change(self):
+        with Cluster(objects={"a": 3, "b": 7, "c": 7, "d": 7, "e": 7, "f": 7, "g": 7}, sites={"s": 4}) as cluster:
+            session = Session()
+            cluster.propose(session, {
+                "a": add(-2), "b": set_(-2), "c": mul(-2), "d": max_(8), "e": min_(-2), "f": take("a"), "g": ("add", 1),
+            })
+            values = cluster.read_many(session, "s", "abcdefg", timeout=SOON).values
+            self.assertEqual(values, {"a": 1, "b": -2, "c": -14, "d": 8, "e": -2, "f": 3, "g": 8})
+
+    def test_the_numbers(self):
+        with self.forced(before=7) as cluster:
+            session = Session()
+            self.assertEqual(cluster.numbers(), (7, 7, 7))
+            self.assertEqual(session.numbered, 0)
+            self.assertEqual(cluster.propose(session, {"n": add(1)}), 8)
+            self.assertEqual((session.seen, session.numbered, repr(session)), (8, 8, "Session(8)"))
+            self.assertEqual(cluster.numbers(), (7, 8, 8))
+            self.assertEqual(cluster.read(session, "south", "tea", timeout=SOON), (40, 8))
+            cluster.settle(Session(), 8, timeout=0)
+            self.assertEqual((cluster.objects, cluster.sites), (("n", "tea"), ("north", "south")))
+
+    def test_time_limits(self):
+        cluster, session = self.forced(), Session()
+        self.assertEqual(self.raised(NotYet, cluster.propose, session, {"n": add(1)}, timeout=0).number, 1)
+        for number, seconds in ((2, 0.03), (3, 0.25)):  # within a slice, and over two
+            with self.soon(seconds):
+                late = self.raised(NotYet, cluster.propose, session, {"n": add(1)}, timeout=seconds)
+            self.assertEqual((late.number, session.numbered, session.seen), (number, number, 0))
+            self.assertEqual(str(late), f"update {number} stands, and is not acknowledged yet")
+            with self.soon(seconds):
+                self.assertEqual(self.raised(NotYet, cluster.settle, session, 1, timeout=seconds).number, 1)
+            with self.soon(seconds):
+                self.assertEqual(self.raised(NotYet, cluster.finish, timeout=seconds).number, number)
+            with self.soon(seconds):
+                behind = self.raised(Behind, cluster.read, Session(1), "south", "n", timeout=seconds)
+            self.assertEqual((behind.applied, str(behind)), (0, "the site has applied 0 updates, and the session has seen more"))
+            with self.soon(seconds):
+                self.raised(Behind, cluster.read_when_level, Session(1), "south", "n", seconds)
+            with self.soon(seconds):
+                self.assertEqual(self.raised(Behind, cluster.read_many_when_level, Session(1), "south", ["n"], seconds).applied, 0)
+            with self.soon(seconds):
+                late = self.raised(NotYet, self.in_thread(cluster.settle, session, 1, timeout=seconds).result)
+        self.assertEqual(self.raised(Behind, cluster.read, Session(1), "south", "n").applied, 0)
+        self.raised(Behind, cluster.read_many, Session(1), "south", ["n"])
+        with self.soon():
+            self.raised(NotYet, cluster.finish, timeout=-1.0)
+        # What began without threads goes on with them, and a wait of some slices ends as one does.
+        timer = threading.Timer(0.35, cluster.start)
+        timer.start()
+        with self.soon(0.2):
+            self.assertEqual(cluster.propose(session, {"n": add(1)}), 4)
+        timer.join()
+        cluster.settle(session, 1)
+        self.assertEqual(cluster.read_when_level(session, "south", "n"), (4, 4))
+        for seconds in (None, 10**6, 10**400, float("inf")):
+            cluster.settle(session, 1, timeout=seconds)
+        cluster.close()
+
+    def test_an_unmet_condition(self):
+        with self.forced() as cluster:
+            session, enough = Session(), at_least("tea", 2**62 + 1)
+            unmet = self.raised(Unmet, cluster.propose, session, {"tea": add(-3)}, conditions=[enough])
+            self.assertEqual((unmet.index, unmet.condition), (0, Condition("tea", "at_least", 2**62 + 1)))
+            self.assertEqual(str(unmet), f"tea would not be at least {2**62 + 1}")
+            self.assertEqual((session.numbered, cluster.numbers().length), (0, 0))
+
+    @real_only
+    def test_conditions(self):
+        with Cluster(objects={"tea": 40, "rye": 0}, sites={"shop": Site(64, {"count": 0}), "yard": 64}) as cluster:
+            session, sale = Session(), {"tea": add(-30), "rye": add(1)}
+            kept = [at_most("rye", 1), at_least("tea", 0)]
+            self.refused(6, "UnknownObject", lambda: cluster.propose(session, sale, conditions=[at_least("coffee", 0)]))
+            self.assertEqual(cluster.propose(session, sale, conditions=iter(kept)), 1)
+            unmet = self.raised(Unmet, cluster.propose, session, sale, conditions=kept)
+            self.assertEqual((unmet.index, unmet.condition), (0, kept[0]))
+            unmet = self.raised(Unmet, cluster.propose, session, {"tea": add(-30)}, conditions=kept)
+            self.assertEqual((unmet.index, unmet.condition), (1, kept[1]))
+            self.assertEqual(cluster.numbers(), (0, 1, 1))
+            # Two clerks who both see 10 bags sell no more than these.
+            def sell():
+                try:
+                    return cluster.propose(Session(), {"tea": add(-1)}, conditions=[at_least("tea", 0)])
+                except Unmet:
+                    return None
+
+            with ThreadPoolExecutor(4) as pool:
+                sold = [it.result() for it in [pool.submit(sell) for _ in range(20)]]
+            self.assertEqual(sum(number is not None for number in sold), 10)
+
+    @real_only
+    def test_groups_lags_and_the_numbers_of_a_site(self):
+        sites = {"shop": Site(64, {"count": 0}), "yard": Site(64, {("group", "all"): 100, "all": 200, ("object", "rye"): 5})}
+        with Cluster(objects={"tea": 40, "rye": 0}, groups={"all": ["tea", "rye"]}, sites=sites, before=7) as cluster:
+            session = Session()
+            cluster.propose(session, {"tea": add(-30)})
+            cluster.finish()
+            cluster.read_when_level(session, "yard", "tea")
+            cluster.propose(session, {"tea": add(-1)})
+            numbers = cluster.site_numbers("shop")
+            self.assertEqual((numbers.sent, numbers.applied, numbers.rounds), (9, 9, 2))
+            self.assertEqual(cluster.lags("shop"), (Lag("count", 0, 0),))
+            lags = {lag.scope: lag for lag in cluster.lags("yard")}
+            self.assertEqual({scope: lag.amount for scope, lag in lags.items()}, sites["yard"].limits)
+            self.assertLessEqual(lags["all"].weight, 31)
+            self.assertEqual(lags["object", "rye"].weight, 0)
+            self.assertEqual(cluster.relimit("yard", ("group", "all"), 90), 10)
+            self.assertIn(("group", "all"), [lag.scope for lag in cluster.lags("yard")])
+        yard = cluster.site_numbers("yard")
+        self.assertEqual((yard.sent, yard.applied, yard.reported, yard.rounds), (9, 9, 9, 0))
+
+    def test_a_limit_that_is_changed(self):
+        cluster, session = self.forced(), Session()
+        self.assertEqual(cluster.relimit("south", "all", 5), 1)
+        self.assertEqual(cluster.relimit("south", ("object", "tea"), 5), 1)
+        self.raised(NotYet, cluster.propose, session, {"n": add(1)}, timeout=0)
+        self.refused(24, "HeadPending", cluster.relimit, "south", "all", 9)
+        with cluster:
+            cluster.settle(session, 1)
+            self.assertEqual(cluster.relimit("south", "all", 9), 2)
+
+    def test_a_query(self):
+        with self.forced() as cluster:
+            session = Session()
+            cluster.propose(session, {"n": add(1), "tea": add(-1)})
+            cluster.read_when_level(session, "south", "n")
+            with cluster.query("south", limit=0) as query:
+                self.assertEqual(query.read("tea"), (39, 0, 0))
+                self.refused(6, "UnknownObject", query.read, "coffee")
+                self.assertEqual(query.read("n").value, 1)
+                self.assertEqual(query.end(), (1, 40, 0, 2))
+                self.assertRaisesRegex(Error, "has ended", query.read, "n")
+            self.assertEqual(query.end(), (1, 40, 0, 2))
+            forgotten = cluster.query("south", 10**18)
+            self.assertEqual(forgotten.read("n").imported, 0)
+        late = cluster.query("south", 3)
+        del cluster, forgotten
+        gc.collect()
+        self.assertEqual(late.read("tea"), (39, 0, 0))
+
+    def test_a_query_imports_no_more_than_its_limit(self):
+        cluster, session = Cluster(objects={"n": 0}, sites={"s": 64}), Session()
+        for _ in range(5):
+            cluster.propose(session, {"n": add(1)})
+        with cluster.query("s", limit=9) as query:
+            self.assertEqual(query.read("n"), (0, 5, 5))
+            self.refused(20, "OverImport", query.read, "n")
+            self.assertEqual(query.end(), (5, 0, 5, 1))
+        cluster.close()
+
+    def test_a_record_while_it_runs(self):
+        with self.forced() as cluster:
+            for _ in range(50):
+                cluster.propose(Session(), {"n": add(1)})
+            self.audited(cluster.record("north"))
+            self.assertTrue(cluster.record("south").startswith(b"ordup,"))
+            self.refused(8, "UnknownSite", cluster.record, "west")
+
+    def test_a_successor(self):
+        with self.forced() as cluster:
+            session = Session()
+            cluster.propose(session, {"n": add(5)})
+        closed = cluster.close()
+        with closed.successor() as following:
+            self.assertEqual(following.read(session, "north", "n"), (5, 1))
+            self.assertEqual(following.propose(session, {"n": add(1)}), 2)
+            following.settle(session, 1)
+            self.refused(9, "OutOfRange", following.settle, session, 3)
+            self.assertEqual(cluster.numbers(), (0, 1, 1))
+        self.audited(closed.record("north"), following.close().record("north"))
+
+    def test_no_successor_after_what_is_not_acknowledged(self):
+        cluster = self.forced()
+        self.raised(NotYet, cluster.propose, Session(), {"n": add(1)}, timeout=0)
+        self.assertEqual(self.raised(NotYet, cluster.close().successor).number, 1)
+
+
+class Misuse(ClusterCase):
+    def test_a_stopped_cluster(self):
+        with self.forced() as cluster:
+            session = Session()
+            cluster.propose(session, {"n": add(1)})
+            cluster.finish()
+        self.assertRaises(Stopped, cluster.propose, session, {"n": add(1)})
+        self.assertRaises(Stopped, cluster.start)
+        self.assertRaises(Stopped, cluster.__enter__)
+        cluster.stop()
+        self.assertEqual(cluster.close().numbers(), (0, 1, 1))
+        self.assertEqual(cluster.read(session, "south", "n"), (1, 1))
+        self.assertEqual(cluster.read_many(session, "south", ["n"]).values, {"n": 1})
+        self.assertEqual(cluster.query("south", 0).read("n").value, 1)
+        self.assertRaises(Behind, cluster.read_when_level, Session(2), "south", "n")
+        cluster.settle(session, 1)
+        cluster.finish()
+
+    def test_a_block_that_fails_closes_the_cluster(self):
+        with self.assertRaises(ZeroDivisionError):
+            with self.forced() as cluster:
+                raise ZeroDivisionError
+        self.assertRaises(Stopped, cluster.propose, Session(), {"n": add(1)})
+
+    def test_a_cluster_is_started_once(self):
+        cluster, tasks = self.forced(), len(os.listdir("/proc/self/task"))
+        for _ in range(3):
+            cluster.start()
+        self.assertEqual(len(os.listdir("/proc/self/task")), tasks + 3)
+        cluster.close()
+        self.assertEqual(len(os.listdir("/proc/self/task")), tasks)
+
+    def test_a_session_in_two_calls(self):
+        cluster, session = self.forced(), Session()
+        waiting = self.in_thread(cluster.propose, session, {"n": add(1)})
+        while not cluster.numbers().length:
+            time.sleep(0.001)
+        for call in (lambda: cluster.read(session, "north", "n"), lambda: cluster.propose(session, {"n": add(1)}),
+                     lambda: cluster.settle(session, 1), lambda: cluster.read_many(session, "north", ["n"])):
+            self.assertRaises(InUse, call)
+        self.assertEqual(cluster.numbers().length, 1)
+        with cluster:
+            self.assertEqual(waiting.result(SOON), 1)
+            self.assertEqual(cluster.read(session, "north", "n"), (1, 1))
+            self.assertEqual(cluster._calls, {})
+
+    def test_refusals(self):
+        with self.forced() as cluster:
+            session, many = Session(), Session()
+            self.refused(6, "UnknownObject", cluster.propose, session, {"coffee": add(1)})
+            self.refused(6, "UnknownObject", cluster.propose, session, {"n": take("coffee")})
+            self.refused(1, "Syntax", cluster.propose, session, {"n": ("div", 2)})
+            self.refused(11, "Empty", cluster.propose, session, {})
+            for number in (10**9 + 1, -(10**9) - 1, 2**63, 2**64, 2**64 + 1, -(2**64) + 1, 10**30):
+                self.refused(9, "OutOfRange", cluster.propose, session, {"n": set_(number)})
+                self.refused(9, "OutOfRange", cluster.settle, session, abs(number))
+                self.refused(9, "OutOfRange", cluster.settle, session, -abs(number))
+            self.refused(9, "OutOfRange", cluster.settle, session, 0)
+            for call in (cluster.read, cluster.read_when_level):
+                self.refused(8, "UnknownSite", call, session, "west", "n")
+                self.refused(6, "UnknownObject", call, session, "north", "coffee")
+            self.refused(8, "UnknownSite", cluster.read_many, session, "west", ["n"])
+            self.refused(6, "UnknownObject", cluster.read_many, session, "north", ["n", "coffee"])
+            self.refused(8, "UnknownSite", cluster.query, "west", 1)
+            for limit in (-1, 10**18 + 1, 2**64 + 1):
+                self.refused(9, "OutOfRange", cluster.query, "north", limit)
+                self.refused(9, "OutOfRange", cluster.relimit, "north", "all", limit)
+            self.refused(8, "UnknownSite", cluster.relimit, "west", "all", 1)
+            self.refused(6, "UnknownObject", cluster.relimit, "north", ("object", "coffee"), 1)
+            self.refused(7, "UnknownGroup", cluster.relimit, "north", ("group", "all"), 1)
+            self.refused(8, "UnknownSite", cluster.site_numbers, "west")
+            self.refused(8, "UnknownSite", cluster.lags, "west")
+            self.assertEqual(str(self.raised(Refused, cluster.propose, session, {"coffee": add(-3)})), "propose add:coffee:-3: refused 6 UnknownObject")
+            self.assertEqual((cluster.numbers().length, session.numbered), (0, 0))
+
+    def test_refused_declarations(self):
+        sites = {"s": 4}
+        for number, name, words in (
+            (11, "Empty", dict(objects={}, sites=sites)),
+            (11, "Empty", dict(objects={"x": 0}, sites={})),
+            (4, "BadName", dict(objects={"X": 0}, sites=sites)),
+            (4, "BadName", dict(objects={"": 0}, sites=sites)),
+            (4, "BadName", dict(objects={"\ud800": 0}, sites=sites)),
+            (4, "BadName", dict(objects={"x": 0}, sites={"a b": 4})),
+            (9, "OutOfRange", dict(objects={"x": 10**9 + 1}, sites=sites)),
+            (9, "OutOfRange", dict(objects={"x": 2**64}, sites=sites)),
+            (9, "OutOfRange", dict(objects={"x": 0}, sites={"s": 0})),
+            (9, "OutOfRange", dict(objects={"x": 0}, sites={"s": -1})),
+            (9, "OutOfRange", dict(objects={"x": 0}, sites={"s": 1025})),
+            (9, "OutOfRange", dict(objects={"x": 0}, sites={"s": Site(4, {"all": -1})})),
+            (6, "UnknownObject", dict(objects={"x": 0}, sites={"s": Site(4, {("object", "y"): 1})})),
+            (7, "UnknownGroup", dict(objects={"x": 0}, sites={"s": Site(4, {("group", "y"): 1})})),
+            (10, "TooMany", dict(objects={f"x{it}": 0 for it in range(257)}, sites=sites)),
+            (10, "TooMany", dict(objects={"x": 0}, sites={f"s{it}": 4 for it in range(17)})),
+            (13, "LogFull", dict(objects={"x": 0}, sites=sites, before=10**18 + 1)),
+            (13, "LogFull", dict(objects={"x": 0}, sites=sites, before=-1)),
+        ):
+            with self.subTest(name=name, words=str(words)[:80]):
+                self.refused(number, name, lambda: Cluster(**words))
+
+    def test_what_is_no_argument(self):
+        with self.forced() as cluster:
+            session = Session()
+            for changes in (None, 5, "n", [("n", ("add", 1))], {"n"}):
+                self.assertRaises(TypeError, cluster.propose, session, changes)
+            for operand in (1.5, None, b"x"):
+                self.assertRaises(TypeError, cluster.propose, session, {"n": ("add", operand)})
+            self.assertRaises(ValueError, cluster.propose, session, {"n": add(1)}, conditions=[Condition("n", "over", 1)])
+            for seconds in ("1", [], 1j, float("nan")):
+                wrong = ValueError if seconds != seconds else TypeError
+                self.assertRaises(wrong, cluster.propose, session, {"n": add(1)}, timeout=seconds)
+                self.assertRaises(wrong, cluster.settle, session, 1, seconds)
+                self.assertRaises(wrong, cluster.finish, seconds)
+                self.assertRaises(wrong, cluster.read, session, "north", "n", seconds)
+                self.assertRaises(wrong, cluster.read_many, session, "north", ["n"], seconds)
+            for scope in ("object", "n", ("all", "n"), ("object", ""), ("site", "n")):
+                self.assertRaises((ValueError, Refused), cluster.relimit, "north", scope, 1)
+            for limit in (1.5, "1", None):
+                self.assertRaises(TypeError, cluster.query, "north", limit)
+                self.assertRaises(TypeError, cluster.relimit, "north", "all", limit)
+                self.assertRaises(TypeError, cluster.settle, session, limit)
+                self.assertRaises(TypeError, Session, limit)
+            for names in ({"x": 1.5}, {"x": "1"}, {5: 1}, {None: 1}):
+                self.assertRaises(TypeError, Cluster, names, {"s": 4})
+            for sites in ({"s": 1.5}, {5: 4}, {"s": Site(4, {"all": 0.5})}):
+                self.assertRaises(TypeError, Cluster, {"x": 0}, sites)
+            self.assertEqual(cluster.numbers().length, 0)
+
+    def test_statuses_that_have_no_name(self):
+        self.assertRaisesRegex(Error, "read s x: the library's status is 10", _cluster._must, 10, "read", "s", "x")
+        self.assertRaisesRegex(Error, "the library's status is 128", _cluster._must, 128)
+        self.assertRaises(MemoryError, _cluster._must, 126)
+        self.assertRaises(ordup.Mixed, _cluster._must, 127)
+
+    def test_memory_that_is_refused(self):
+        cluster, session = self.forced(), Session()
+        with mock.patch.object(cluster, "_library", mock.Mock(wraps=cluster._library)) as library:
+            library.propose_if.side_effect = lambda *words: 126
+            self.assertRaises(MemoryError, cluster.propose, session, {"n": add(1)})
+            library.close.side_effect = lambda *words: 126
+            self.assertRaises(MemoryError, cluster.close)
+            library.close.side_effect = lambda *words: 127
+            self.assertRaises(ordup.Mixed, cluster.close)
+        self.assertEqual(cluster.close().numbers(), (0, 0, 0))
+
+    def test_libraries_without_clusters(self):
+        older = mock.Mock(spec=["ordup_version"])
+        older.ordup_version.return_value = 1
+        with mock.patch("ctypes.PyDLL", return_value=older), mock.patch("ctypes.CDLL", return_value=older):
+            with mock.patch.dict(os.environ, {"ORDUP_LIBRARY": "older.so"}):
+                self.assertRaisesRegex(OSError, "older.so is an older library of ordup, without clusters", self.forced)
+                older.ordup_version.return_value = 2
+                self.assertRaisesRegex(OSError, "older.so has the version 2", self.forced)
+        with mock.patch("ordup._cluster_library.found", return_value=None):
+            self.assertRaisesRegex(OSError, "not found", self.forced)
+        for path in ("/no/such/library.so", "libc.so.6"):
+            with mock.patch.dict(os.environ, {"ORDUP_LIBRARY": path}):
+                self.assertRaises(OSError, self.forced)
+
+
+class Ends(ClusterCase):
+    def test_ctrl_c_in_a_waiting_call(self):
+        cluster, session = self.forced(), Session()
+        for number, wait in enumerate((
+            lambda: cluster.propose(session, {"n": add(1)}), lambda: cluster.propose(session, {"n": add(1)}, timeout=60.0),
+            lambda: cluster.settle(session, 1), cluster.finish, lambda: cluster.read_when_level(Session(1), "south", "n"),
+            lambda: cluster.read_many(Session(1), "south", ["n"], timeout=None), lambda: cluster.read(Session(1), "south", "n", 60.0),
+        )):
+            timer = interrupted_after(0.25)
+            with self.soon(0.2):
+                self.assertRaises(KeyboardInterrupt, wait)
+            timer.join()
+            # What was numbered stands, and the session tells its number.
+            self.assertEqual((session.numbered, cluster.numbers().length), (min(number, 1) + 1,) * 2)
+            self.assertEqual(cluster._calls, {})
+        with cluster:
+            cluster.settle(session, session.numbered)
+            self.assertEqual(cluster.read(session, "north", "n"), (2, 2))
+
+    def test_ctrl_c_ends_a_block_and_the_waits_of_other_threads(self):
+        script = """
+import ordup, os, signal, threading, time
+signal.signal(signal.SIGINT, signal.default_int_handler)
+ended = []
+def wait(cluster):
+    try:
+        cluster.read_when_level(ordup.Session(1), "s", "x")
+    except ordup.Behind as behind:
+        ended.append(behind.applied)
+try:
+    with ordup.Cluster({"x": 0}, {"s": 4}) as cluster:
+        thread = threading.Thread(target=wait, args=[cluster])
+        thread.start()
+        threading.Timer(0.3, os.kill, [os.getpid(), signal.SIGINT]).start()
+        cluster.read_when_level(ordup.Session(1), "s", "x")
+except KeyboardInterrupt:
+    thread.join(5)
+    print("interrupted", ended, flush=True)
+"""
+        with self.soon(), self.started(script) as process:
+            self.assertEqual(process.stdout.read(), b"interrupted [0]\n")
+
+    def test_interrupts_lose_nothing(self):
+        # Wherever Ctrl-C comes, the session tells of each update that stands, and no call is left under way.
+        for turn in range(60):
+            with self.forced() as cluster:
+                session, numbers, interrupted = Session(), [], False
+                signal.setitimer(signal.ITIMER_REAL, 0.002 + turn % 20 / 3000)
+                before = signal.signal(signal.SIGALRM, signal.default_int_handler)
+                try:
+                    try:
+                        while True:
+                            known = session.numbered
+                            numbers.append(cluster.propose(session, {"n": add(1)}))
+                            cluster.read(session, "north", "n")
+                    except KeyboardInterrupt:
+                        pass
+                finally:
+                    signal.setitimer(signal.ITIMER_REAL, 0)
+                    signal.signal(signal.SIGALRM, before)
+                if session.numbered > known:
+                    cluster.settle(session, session.numbered)
+                self.assertEqual(cluster._calls, {})
+                self.assertEqual(session.numbered, cluster.numbers().length)
+                self.assertEqual(cluster.read(session, "north", "n").value, session.numbered)
+
+    def test_a_stop_ends_each_wait(self):
+        cluster = self.forced()
+        ahead = Session(9)
+        waits = [self.in_thread(cluster.propose, Session(), {"n": add(1)}), self.in_thread(cluster.finish),
+                 self.in_thread(cluster.read_when_level, ahead, "south", "n"), self.in_thread(cluster.read_many_when_level, Session(9), "north", ["n"])]
+        time.sleep(0.1)
+        threading.Timer(0.1, cluster.stop).start()
+        with self.soon():
+            self.assertRaises(NotYet, cluster.settle, Session(), 1)
+            for wait, kind in zip(waits, (NotYet, NotYet, Behind, Behind)):
+                self.assertIsInstance(wait.exception(SOON), kind)
+
+    def test_a_close_amid_the_calls_of_other_threads(self):
+        for turn in range(8):
+            cluster = self.forced()
+            cluster.start()
+            ends, begun = [], threading.Barrier(5)
+
+            def work(kind):
+                session = Session()
+                begun.wait(SOON)
+                try:
+                    for _ in range(5_000):
+                        if kind:
+                            cluster.read(session, "south", "n")
+                            self.assertEqual(cluster.read_many(Session(), "north", ["n", "tea"]).values["tea"], 40)
+                            cluster.query("south", 0).end()
+                        else:
+                            cluster.propose(session, {"n": add(1)})
+                except (Stopped, NotYet) as why:
+                    ends.append(type(why))
+
+            threads = [threading.Thread(target=work, args=[kind]) for kind in (0, 0, 1, 1)]
+            for thread in threads:
+                thread.start()
+            begun.wait(SOON)
+            time.sleep(turn / 400)
+            closed = [self.in_thread(cluster.close) for _ in range(2)]
+            cluster.close()
+            for it in closed:
+                it.result(SOON)
+            for thread in threads:
+                thread.join(2 * SOON)
+                self.assertFalse(thread.is_alive())
+            self.assertEqual(len(ends), 2)
+            self.assertEqual(cluster._calls, {})
+            self.audited(cluster.record("north"))
+
+    def test_a_signal_handler_amid_a_call(self):
+        cluster, told = self.forced(), []
+
+        def handler(number, frame):
+            told.append(cluster.read(Session(), "north", "n").value)
+            told.append(cluster.close().numbers().length)
+
+        before = signal.signal(signal.SIGALRM, handler)
+        signal.setitimer(signal.ITIMER_REAL, 0.15)
+        try:
+            with self.soon():
+                self.assertEqual(self.raised(NotYet, cluster.propose, Session(), {"n": add(1)}).number, 1)
+        finally:
+            signal.signal(signal.SIGALRM, before)
+        self.assertEqual(told, [0, 1])
+
+    def test_a_forked_child(self):
+        with self.forced() as cluster:
+            session, query, queries = Session(), cluster.query("south", 5), [cluster.query("south", 5)]
+            cluster.propose(session, {"n": add(1)})
+            waiting = self.in_thread(cluster.read_when_level, Session(2), "south", "n")
+            time.sleep(0.05)
+
+            def in_child():
+                for call in (lambda: cluster.propose(session, {"n": add(1)}), lambda: cluster.read(session, "north", "n"), cluster.numbers,
+                             lambda: cluster.settle(session, 1), cluster.finish, cluster.stop, cluster.close, cluster.start, query.end,
+                             lambda: cluster.read_many(session, "north", ["n"]), lambda: cluster.record("north"), lambda: query.read("n"),
+                             lambda: cluster.query("north", 1), lambda: cluster.lags("north"), lambda: cluster.relimit("north", "all", 1)):
+                    self.assertRaises(Forked, call)
+                with self.assertRaises(Forked), query:
+                    cluster.numbers()
+                queries.clear()
+                cluster.__exit__(None)
+                gc.collect()
+                with self.forced() as own:  # it may have one of its own
+                    self.assertEqual(own.propose(Session(), {"n": add(1)}), 1)
+                return 7
+
+            for _ in range(3):
+                self.assertEqual(self.forked(in_child), 7)
+            self.assertEqual(cluster.propose(session, {"n": add(1)}), 2)
+            self.assertEqual(waiting.result(SOON), (2, 2))
+            self.assertEqual(query.end().reads, 0)
+
+    def test_the_end_of_python_amid_calls(self):
+        script = """
+import ordup, threading
+cluster = ordup.Cluster({"x": 0}, {"s": 4})
+cluster.start()
+query = cluster.query("s", 1)
+for _ in range(3):
+    threading.Thread(target=cluster.read_when_level, args=[ordup.Session(1), "s", "x"], daemon=True).start()
+left = ordup.Cluster({"x": 0}, {"s": 4})
+left.start()
+print("at the end", flush=True)
+"""
+        with self.soon(), self.started(script) as process:
+            self.assertEqual(process.stdout.read(), b"at the end\n")
+        self.assertEqual(process.returncode, 0)
+
+    def test_a_forgotten_cluster_ends(self):
+        tasks = len(os.listdir("/proc/self/task"))
+        cluster = self.forced()
+        cluster.start()
+        cluster.propose(Session(), {"n": add(1)})
+        forgotten = cluster._forgotten
+        del cluster
+        gc.collect()
+        self.assertFalse(forgotten.alive)
+        self.assertEqual(len(os.listdir("/proc/self/task")), tasks)
+
+    def test_ten_thousand_clusters_leave_no_memory(self):
+        def resident():
+            gc.collect()
+            return int(Path("/proc/self/statm").read_text().split()[1]) * 4096
+
+        def one(number):
+            cluster = Cluster(objects={"n": 0}, sites={"s": Site(4, {"count": 0})})
+            if number % 20 == 0:
+                with cluster:
+                    cluster.propose(Session(), {"n": add(1)})
+                    cluster.query("s", 1).read("n")
+                    cluster.record("s")
+                cluster = cluster.close().successor()
+            cluster.read(Session(), "s", "n")
+
+        for number in range(1_000):
+            one(number)
+        before = resident()
+        for number in range(10_000):
+            one(number)
+        self.assertLess(resident() - before, 2 << 20)  # a cluster has some 20 KB
+
+
+class Asyncio(ClusterCase):
+    def example(self, name):
+        spec = importlib.util.spec_from_file_location(name, HERE / "examples" / f"{name}.py")
+        module = importlib.util.module_from_spec(spec)
+        spec.loader.exec_module(module)
+        return module
+
+    @unittest.skipIf(sys.version_info < (3, 9), "asyncio.to_thread, which came with Python 3.9")
+    def test_the_example(self):
+        with mock.patch("builtins.print") as told, self.soon():
+            seen = asyncio.run(self.example("in_asyncio").main(8))
+        told.assert_called_once_with(920, "bags are left")
+        self.assertEqual(len(seen), 8)
+        self.assertEqual(min(seen), 920)
+
+    @unittest.skipIf(sys.version_info < (3, 9), "asyncio.to_thread, which came with Python 3.9")
+    def test_the_loop_goes_on_while_a_call_waits(self):
+        async def main():
+            cluster, session, turns = self.forced(), Session(), 0
+            waiting = asyncio.create_task(asyncio.to_thread(cluster.propose, session, {"n": add(1)}, 10.0))
+            while cluster.numbers().length == 0 or turns < 50:
+                turns += 1
+                await asyncio.sleep(0.002)
+            self.assertFalse(waiting.done())
+            with self.assertRaises(InUse):
+                await asyncio.to_thread(cluster.read, session, "south", "n")
+            with cluster:
+                self.assertEqual(await waiting, 1)
+
+        with self.soon():
+            asyncio.run(main())
+
+
+class Service(ClusterCase):
+    """The example of a service over HTTP, under a small load."""
+
+    def ask(self, method, path):
+        """The status and what was said."""
+        try:
+            with urllib.request.urlopen(urllib.request.Request(self.at + path, method=method), timeout=2 * SOON) as answer:
+                return answer.status, answer.read().decode()
+        except urllib.error.HTTPError as why:
+            return why.code, why.read().decode()
+
+    def told(self, method, path):
+        status, text = self.ask(method, path)
+        return status, json.loads(text)
+
+    @contextlib.contextmanager
+    def served(self, folder):
+        words = [sys.executable, HERE / "examples/stock_service.py", "0", folder]
+        around = {**os.environ, "PYTHONPATH": str(HERE), "PYTHONDONTWRITEBYTECODE": "1"}
+        with subprocess.Popen([str(word) for word in words], stdout=subprocess.PIPE, env=around) as process:
+            try:
+                self.at = process.stdout.readline().decode().strip()
+                yield
+                process.send_signal(signal.SIGTERM)
+                self.assertEqual(process.wait(2 * SOON), 0)
+            finally:
+                process.kill()
+
+    def test_under_a_small_load(self):
+        clients, requests = 4, 50
+
+        def work(client):
+            seen = sold = 0
+            for number in range(requests):
+                status, said = self.told("POST", f"/sales/tea/1?seen={seen}")
+                while status == 202:
+                    seen, (status, said) = said["number"], self.told("GET", f"/updates/{said['number']}")
+                self.assertIn(status, (200, 201, 409))
+                if status != 409:
+                    sold, seen = sold + 1, said["seen"]
+                    self.assertGreaterEqual(seen, said["number"])
+                site = ("north", "south")[number % 2]
+                status, said = self.told("GET", f"/stock/{site}/tea?seen={seen}")
+                self.assertEqual(status, 200)
+                self.assertGreaterEqual(said["applied"], seen)
+                self.assertLessEqual(said["value"], 300 - sold)
+                self.assertGreaterEqual(said["missing_updates"], 0)
+                seen = said["seen"]
+            return sold
+
+        with tempfile.TemporaryDirectory() as folder:
+            with self.served(folder):
+                self.assertEqual(self.ask("GET", "/healthz")[0], 200)
+                self.assertEqual(self.told("GET", "/stock/north/tea")[1]["value"], 100)
+                self.assertEqual(self.told("POST", "/deliveries/tea/200"), (201, {"number": 1, "seen": 1}))
+                with ThreadPoolExecutor(clients) as pool:
+                    sold = sum(it.result() for it in [pool.submit(work, it) for it in range(clients)])
+                self.assertEqual(sold, clients * requests)
+                last = json.loads(self.ask("GET", f"/updates/{sold + 1}")[1])["seen"]
+                for site in ("north", "south"):
+                    self.assertEqual(self.told("GET", f"/stock/{site}/tea?seen={last}")[1]["value"], 300 - sold)
+                for path, status in (("/stock/west/tea", 404), ("/stock/north/coffee", 404), ("/nothing", 404), ("/updates/x", 400),
+                                     ("/updates/9999", 400), ("/stock/north/tea?seen=x", 400), ("/stock/south/tea?seen=9999", 503)):
+                    self.assertEqual(self.ask("GET", path)[0], status, path)
+                self.assertEqual(self.ask("POST", "/sales/coffee/1")[0], 404)
+                status, text = self.ask("GET", "/metrics")
+                self.assertEqual(status, 200)
+                rows = [line for line in text.splitlines() if not line.startswith("#")]
+                for row in rows:
+                    self.assertRegex(row, r'^[a-z_]+(\{[a-z]+="[a-z:]+"(,[a-z]+="[a-z:]+")*\})? [0-9]+$')
+                self.assertEqual(len(rows), len(set(rows)))
+                self.assertIn(f"ordup_log_updates {sold + 1}", rows)
+                self.assertIn(f"ordup_acknowledged_updates {sold + 1}", rows)
+                if not IS_STAND_IN:
+                    self.assertIn(f'ordup_site_sent_updates{{site="south"}} {sold + 1}', rows)
+                    self.assertIn('ordup_site_limit{site="north",scope="count"} 20', rows)
+                    self.assertIn("# TYPE ordup_site_rounds_total counter", text)
+            for site in ("north", "south"):
+                record = Path(folder, f"{site}.record").read_bytes()
+                self.assertGreater(record.count(b"change,"), sold)
+                self.audited(record)
+
+    @real_only
+    def test_no_bag_is_sold_twice(self):
+        with tempfile.TemporaryDirectory() as folder, self.served(folder), ThreadPoolExecutor(8) as pool:
+            statuses = [it.result()[0] for it in [pool.submit(self.ask, "POST", "/sales/tea/3") for _ in range(50)]]
+            self.assertEqual(statuses.count(409), 50 - 33)
+            self.assertEqual(self.told("GET", "/stock/north/tea?seen=33")[1]["value"], 1)
+
+
+class Header(unittest.TestCase):
+    """What the module has of the headers and of FORMATS is what they have."""
+
+    TEXT = "".join((TOP / f"clients/c/ordup_{name}.h").read_text(encoding="utf-8") for name in ("holds", "cluster"))
+
+    def test_the_numbers(self):
+        # One that no number follows in its enumeration is one more than that before it.
+        numbers = {}
+        for body in re.findall(r"\nenum \{(.*?)\};", self.TEXT, re.S):
+            last = -1
+            for name, value in re.findall(r"ORDUP_(\w+)(?: = ([^,/]*))?", re.sub(r"= ORDUP_REFUSED \+", "= 100 +", body)):
+                last = sum(map(int, value.split("+"))) if value else last + 1
+                numbers[name] = last
+        for name in ("DONE", "MORE", "CLOSED", "OPEN", "UNMET", "REFUSED"):
+            self.assertEqual(getattr(_cluster_library, name), numbers[name], name)
+        for name in ("BEHIND", "NOT_YET", "STOPPED", "NO_MEMORY", "MIXED"):
+            self.assertEqual(getattr(_cluster_library, name), numbers[f"REFUSED_{name}"], name)
+        for word, number in {**_cluster._OPERATIONS, **_cluster._BOUNDS}.items():
+            self.assertEqual(number, numbers[word.upper()], word)
+        for number, word in enumerate(_cluster._SCOPES):
+            self.assertEqual(number, numbers[f"SCOPE_{word.upper()}"], word)
+
+    def test_the_structures(self):
+        kinds = {"uint32_t": ctypes.c_uint32, "uint64_t": ctypes.c_uint64, "int64_t": ctypes.c_int64, "void *": ctypes.c_void_p,
+                 "ordup_cluster *": ctypes.c_void_p, "ordup_handle ": _cluster_library.Handle}
+        names = {"charged": {"import": "imported"}}
+        for word, kind in (("handle", "Handle"), ("change", "Change"), ("condition", "Condition"), ("seen", "Seen"), ("charged", "Charged"),
+                           ("ended", "Ended"), ("query", "Query"), ("numbers", "Numbers"), ("site_numbers", "SiteNumbers"), ("lag", "Lag")):
+            body = re.search(rf"typedef struct ordup_{word} \{{(.*?)\}} ordup_{word};", self.TEXT, re.S)[1]
+            fields = []
+            for type_, members in re.findall(r"(void \*|ordup_cluster \*|ordup_handle |\w+)\s*([\w, ]+);", body):
+                for member in members.split(","):
+                    fields.append((names.get(word, {}).get(member.strip(), member.strip()), kinds[type_]))
+            self.assertEqual(fields, getattr(_cluster_library, kind)._fields_, word)
+
+    def test_the_names_of_the_refusals(self):
+        page = (TOP / "docs/FORMATS.md").read_text(encoding="utf-8")
+        names = {int(number): name for number, name in re.findall(r"^\| (\d+) `(\w+)` \|", page, re.M)}
+        self.assertEqual(dict(enumerate(_cluster._NAMES, 1)), names)
+
+    def test_the_names_that_all_languages_share(self):
+        for name in ("propose", "settle", "query", "relimit", "record", "read", "read_many", "read_when_level", "numbers", "lags", "finish",
+                     "stop", "close"):
+            self.assertTrue(callable(getattr(Cluster, name)), name)
+        self.assertTrue(callable(ordup.Closed.successor) and callable(ordup.Closed.records))
+
+
+CASES = [Threads, Calls, Misuse, Ends, Asyncio, Service]  # what needs the library
+
+
+def load_tests(loader, tests, pattern):
+    tests.addTest(doctest.DocTestSuite(ordup, test_finder=Examples()))
+    return tests
+
+
+class Examples(doctest.DocTestFinder):
+    """The examples of the clusters alone."""
+
+    def find(self, *words, **options):
+        return [test for test in super().find(*words, **options) if test.name.startswith("ordup.Cluster")]
+
+
+if __name__ == "__main__":
+    sys.argv = [word for word in sys.argv if word != "--stand-in"]
+    if len(sys.argv) > 1 and Path(sys.argv[1]).is_file():
+        TestCase.program = str(Path(sys.argv.pop(1)).resolve())
+    else:
+        print("not tried: the audit of the records by a program, since none was given")
+    signal.signal(signal.SIGINT, signal.default_int_handler)
+    faulthandler.dump_traceback_later(600, exit=True)
+    result = unittest.main(exit=False).result
+    for why in sorted({why for _, why in result.skipped}):
+        print(f"not tried: {why}")
+    failed = len(result.failures) + len(result.errors)
+    print(f"{result.testsRun - failed - len(result.skipped)} passed, {failed} failed")
+    sys.exit(0 if result.wasSuccessful() and result.testsRun else 1)

@@ -346,13 +346,16 @@ class Cluster:
         with self._gate:
             before, me = self._barred_by, get_ident()
             try:
-                self._barred_by = me
-                while any(thread != me for thread, in list(self._calls.values())):
-                    time.sleep(0.001)
-                if not self._is_closed:
-                    _must(self._library.close(self._at), "close")
-                    self._is_closed = True
-            finally:
+                try:
+                    self._barred_by = me
+                    while any(thread != me for thread, in list(self._calls.values())):
+                        time.sleep(0.001)
+                    if not self._is_closed:
+                        _must(self._library.close(self._at), "close")
+                        self._is_closed = True
+                finally:
+                    self._barred_by = before
+            finally:  # an interrupt may have come amid the first
                 self._barred_by = before
         return Closed(self)
 
@@ -438,14 +441,18 @@ class Cluster:
             return self.read_when_level(session, site, object, timeout)
         calls, call, out = self._calls, (get_ident(),), session._read
         try:  # as `_call` does, which would cost the read a quarter more
-            if calls.setdefault(session, call) is not call:
-                raise InUse
-            if self._barred_by is not None:
-                self._await_entry(session, call)
-            status = self._library.read(
-                self._at, session._at, self._names.sites.get(site, _NONE), self._names.objects.get(object, _NONE), session._read_at
-            )
-            seen = _new(Seen, (out.value, out.applied))
+            try:
+                if calls.setdefault(session, call) is not call:
+                    raise InUse("the session is in another call")
+                if self._barred_by is not None:
+                    self._await_entry(session, call)
+                status = self._library.read(
+                    self._at, session._at, self._names.sites.get(site, _NONE), self._names.objects.get(object, _NONE), session._read_at
+                )
+                seen = _new(Seen, (out.value, out.applied))
+            finally:
+                if calls.get(session) is call:
+                    del calls[session]
         finally:
             if calls.get(session) is call:
                 del calls[session]
@@ -497,10 +504,9 @@ class Cluster:
 
         Refused `UnknownSite` or `OutOfRange`.
         """
-        at = c.Query()
-        it, most = self._names.sites.get(site, _NONE), _natural(limit)
-        _must(self._call(object(), lambda: self._library.begin(self._at, it, most, byref(at))), "begin", site, limit)
-        return Query(self, at, site)
+        query, it, most = Query(self, site), self._names.sites.get(site, _NONE), _natural(limit)
+        _must(self._call(query, lambda: self._library.begin(self._at, it, most, byref(query._at))), "begin", site, limit)
+        return query
 
     def relimit(self, site: str, scope: Scope, amount: int) -> int:
         """Changes the limit of a site on a scope, or begins one, and returns the number of the first update that it is for. The scope is
@@ -557,15 +563,19 @@ class Cluster:
     def _call(self, key: object, work: Callable[[], int]) -> int:
         """The status of a call. No other call has this key meanwhile, and no close is under way.
 
-        An interrupt may come between any two steps, so what is put down is taken away by whoever finds it to be his.
+        An interrupt may come between any two steps, also amid what is done at last: so that is done twice.
         """
         calls, call = self._calls, (get_ident(),)
         try:
-            if calls.setdefault(key, call) is not call:
-                raise InUse
-            if self._barred_by is not None:
-                self._await_entry(key, call)
-            return work()
+            try:
+                if calls.setdefault(key, call) is not call:
+                    raise InUse("the session or the query is in another call")
+                if self._barred_by is not None:
+                    self._await_entry(key, call)
+                return work()
+            finally:
+                if calls.get(key) is call:
+                    del calls[key]
         finally:
             if calls.get(key) is call:
                 del calls[key]
@@ -579,15 +589,15 @@ class Cluster:
             with self._gate:
                 pass
             if self._calls.setdefault(key, call) is not call:
-                raise InUse
+                raise InUse("the session or the query is in another call")
 
 
 class Query:
     """A query at a site of a cluster, for one call at a time. It is ended by `end`, by the end of its `with` block, or once it is
     forgotten."""
 
-    def __init__(self, cluster: Cluster, at: c.Query, site: str) -> None:
-        self._cluster, self._at, self._site = cluster, at, site
+    def __init__(self, cluster: Cluster, site: str) -> None:
+        self._cluster, self._at, self._site = cluster, c.Query(), site
         self._end_of: Optional[QueryEnd] = None
 
     def __enter__(self) -> Query:

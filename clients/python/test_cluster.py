@@ -727,6 +727,19 @@ print("at the end", flush=True)
         self.assertLess(resident() - before, 2 << 20)  # a cluster has some 20 KB
 
 
+class Page(ClusterCase):
+    @real_only
+    def test_the_example_of_the_page(self):
+        page = (HERE / "README.md").read_text(encoding="utf-8")
+        given = {}
+        with mock.patch("builtins.print") as told:
+            exec(re.search(r"^```python\n(.*?)^```$", page, re.M | re.S)[1], given)
+        numbers, site_numbers, lags = told.call_args[0]
+        self.assertEqual((given["value"], given["applied"], numbers), (37, 1, (0, 1, 1)))
+        self.assertEqual((site_numbers.applied, lags[0][:2]), (1, ("all", 10)))
+        self.audited(given["records"]["shop"])
+
+
 class Asyncio(ClusterCase):
     def example(self, name):
         spec = importlib.util.spec_from_file_location(name, HERE / "examples" / f"{name}.py")
@@ -897,7 +910,7 @@ class Header(unittest.TestCase):
         self.assertTrue(callable(ordup.Closed.successor) and callable(ordup.Closed.records))
 
 
-CASES = [Threads, Calls, Misuse, Ends, Asyncio, Service]  # what needs the library
+CASES = [Threads, Calls, Misuse, Ends, Page, Asyncio, Service]  # what needs the library
 
 
 def load_tests(loader, tests, pattern):

@@ -1,9 +1,9 @@
 #!/usr/bin/env python3
-"""Tests the clusters of the module on the library: clients/python/test_cluster.py [PROGRAM] [--stand-in] [TEST..]
+"""Tests the clusters of the module on the library: clients/python/test_cluster.py [PROGRAM] [--stand-in] [--long] [TEST..]
 
 Threads that propose, read and query, with the values that they must see; each exception; Ctrl-C, signals, forks and ends amid a call;
 memory, a cluster at rest, and the examples. PROGRAM is `ordup`, which then audits the records. With --stand-in the library is not the
-proved one, and what it lacks is not tried.
+proved one, and what it lacks is not tried. With --long the threads make a million updates, where they make 1,200 else.
 """
 
 import asyncio
@@ -42,7 +42,7 @@ from ordup import (
 from ordup import _cluster, _cluster_library
 
 HERE = Path(__file__).resolve().parent
-IS_STAND_IN = "--stand-in" in sys.argv
+IS_STAND_IN, IS_LONG = "--stand-in" in sys.argv, "--long" in sys.argv
 SOON = 5.0
 real_only = unittest.skipIf(IS_STAND_IN, "groups, conditions that can be met, the numbers of sites and their lags, which the stand-in lacks")
 
@@ -90,7 +90,7 @@ class ClusterCase(TestCase):
 class Threads(ClusterCase):
     def test_reads_show_what_was_written_with_its_values(self):
         # Each update adds 1 to n, so what a site holds is how many updates it has applied.
-        limit, callers, updates = 3, 4, 150
+        limit, callers, updates, epochs = 3, 4, *((31_250, 8) if IS_LONG else (150, 2))
         objects = {"n": 0, **{f"x{caller}": 0 for caller in range(callers)}}
         sites = {"north": Site(4, {"count": limit}), "south": 64, "east": Site(1, {"all": 8}), "west": 16}
         series = {site: [] for site in sites}
@@ -98,8 +98,12 @@ class Threads(ClusterCase):
         def work(cluster, caller, session, chance):
             mine = f"x{caller}"
             for _ in range(updates):
-                number = cluster.propose(session, {"n": add(1), mine: add(1)})
-                self.assertEqual(session.seen, max(session.seen, number))
+                if not IS_STAND_IN and chance.random() < 0.1:
+                    unmet = self.raised(Unmet, cluster.propose, session, {mine: add(1)}, conditions=[at_most(mine, written[caller])])
+                    self.assertEqual(unmet.index, 0)
+                kept = [] if IS_STAND_IN else [at_least("n", 1), at_most(mine, written[caller] + 1)]
+                number = cluster.propose(session, {"n": add(1), mine: add(1)}, conditions=kept)
+                self.assertGreaterEqual(session.seen, number)
                 site, seen = chance.choice(list(sites)), session.seen
                 (values, applied) = cluster.read_many(session, site, ["n", mine], timeout=SOON)
                 self.assertGreaterEqual(applied, max(seen, number))
@@ -129,14 +133,14 @@ class Threads(ClusterCase):
 
         sessions, written = [Session() for _ in range(callers)], [0] * callers
         following = Cluster(objects=objects, sites=sites)
-        for epoch in range(2):
+        for epoch in range(epochs):
             ended = threading.Event()
             with following as cluster, ThreadPoolExecutor(callers + 1) as pool:
                 watcher = pool.submit(watch, cluster)
                 works = [pool.submit(work, cluster, it, sessions[it], random.Random(epoch * 10 + it)) for it in range(callers)]
                 try:
                     for it in works:
-                        it.result(60)
+                        it.result(3600 if IS_LONG else 60)
                 finally:
                     ended.set()
                 watcher.result(60)
@@ -243,8 +247,8 @@ class Calls(ClusterCase):
 
     def test_an_unmet_condition(self):
         with self.forced() as cluster:
-            session, enough = Session(), at_least("tea", 2**62 + 1)
-            unmet = self.raised(Unmet, cluster.propose, session, {"tea": add(-3)}, conditions=[enough])
+            session = Session()
+            unmet = self.raised(Unmet, cluster.propose, session, {"tea": add(-3)}, conditions=[("tea", "at_least", 2**62 + 1)])
             self.assertEqual((unmet.index, unmet.condition), (0, Condition("tea", "at_least", 2**62 + 1)))
             self.assertEqual(str(unmet), f"tea would not be at least {2**62 + 1}")
             self.assertEqual((session.numbered, cluster.numbers().length), (0, 0))
@@ -405,9 +409,28 @@ class Misuse(ClusterCase):
             self.assertEqual(cluster.read(session, "north", "n"), (1, 1))
             self.assertEqual(cluster._calls, {})
 
+    def test_threads_that_take_turns_with_a_session_get_their_own_numbers(self):
+        session, told = Session(), []
+
+        def work():
+            for _ in range(200):
+                try:
+                    told.append(cluster.propose(session, {"n": add(1)}))
+                except InUse:
+                    pass
+
+        with Cluster(objects={"n": 0}, sites={"s": 64}) as cluster:
+            threads = [threading.Thread(target=work) for _ in range(4)]
+            for thread in threads:
+                thread.start()
+            for thread in threads:
+                thread.join()
+        self.assertEqual(sorted(told), list(range(1, len(told) + 1)))
+        self.assertEqual(session.seen, len(told))
+
     def test_refusals(self):
         with self.forced() as cluster:
-            session, many = Session(), Session()
+            session = Session()
             self.refused(6, "UnknownObject", cluster.propose, session, {"coffee": add(1)})
             self.refused(6, "UnknownObject", cluster.propose, session, {"n": take("coffee")})
             self.refused(1, "Syntax", cluster.propose, session, {"n": ("div", 2)})
@@ -464,8 +487,9 @@ class Misuse(ClusterCase):
             session = Session()
             for changes in (None, 5, "n", [("n", ("add", 1))], {"n"}):
                 self.assertRaises(TypeError, cluster.propose, session, changes)
-            for operand in (1.5, None, b"x"):
+            for operand in (1.5, None, b"x", "tea"):
                 self.assertRaises(TypeError, cluster.propose, session, {"n": ("add", operand)})
+            self.refused(6, "UnknownObject", cluster.propose, session, {"n": ("take", 1)})
             self.assertRaises(ValueError, cluster.propose, session, {"n": add(1)}, conditions=[Condition("n", "over", 1)])
             for seconds in ("1", [], 1j, float("nan")):
                 wrong = ValueError if seconds != seconds else TypeError
@@ -926,13 +950,13 @@ class Examples(doctest.DocTestFinder):
 
 
 if __name__ == "__main__":
-    sys.argv = [word for word in sys.argv if word != "--stand-in"]
+    sys.argv = [word for word in sys.argv if word not in ("--stand-in", "--long")]
     if len(sys.argv) > 1 and Path(sys.argv[1]).is_file():
         TestCase.program = str(Path(sys.argv.pop(1)).resolve())
     else:
         print("not tried: the audit of the records by a program, since none was given")
     signal.signal(signal.SIGINT, signal.default_int_handler)
-    faulthandler.dump_traceback_later(600, exit=True)
+    faulthandler.dump_traceback_later(7200 if IS_LONG else 600, exit=True)
     result = unittest.main(exit=False).result
     for why in sorted({why for _, why in result.skipped}):
         print(f"not tried: {why}")

@@ -12,7 +12,7 @@ from ctypes import byref
 from dataclasses import dataclass, field
 from operator import index
 from threading import get_ident
-from typing import Callable, Dict, Iterable, List, Literal, Mapping, NamedTuple, Optional, Sequence, Tuple, Type, Union
+from typing import Any, Callable, Dict, Iterable, List, Literal, Mapping, NamedTuple, Optional, Sequence, Tuple, Type, Union
 
 from . import _cluster_library as c
 from ._answers import Change, Error, Refused, Scope
@@ -371,10 +371,10 @@ class Cluster:
         """
         if not isinstance(changes, Mapping):
             raise TypeError("`propose` takes a mapping of objects to changes")
-        asked = list(conditions)
+        asked = [Condition(*it) for it in conditions]
         rows = _array(c.Change, [self._change(name, kind, operand) for name, (kind, operand) in changes.items()])
         tests = _array(c.Condition, [self._condition(*it) for it in asked])
-        unmet, seconds, library = ctypes.c_size_t(), seconds_of(timeout), self._library
+        number, unmet, seconds, library = 0, ctypes.c_size_t(), seconds_of(timeout), self._library
 
         def first(ms: int) -> int:
             return library.propose_if(
@@ -384,18 +384,23 @@ class Cluster:
         def again(ms: int) -> int:
             return library.settle(self._at, session._at, session._numbered, ms)
 
-        status = self._call(session, lambda: _waited(first, again, c.NOT_YET, seconds))
+        def work() -> int:
+            nonlocal number
+            status = _waited(first, again, c.NOT_YET, seconds)
+            number = session.numbered  # before another thread has the session
+            return status
+
+        status = self._call(session, work)
         if status == c.NOT_YET:
-            raise NotYet(session.numbered)
+            raise NotYet(number)
         if status == c.UNMET:
             raise Unmet(unmet.value, asked[unmet.value])
         _must(status, "propose", *(f"{kind}:{name}:{operand}" for name, (kind, operand) in changes.items()))
-        return session.numbered
+        return number
 
-    def _change(self, name: str, kind: str, operand: Union[int, str]) -> c.Change:
-        if isinstance(operand, str):
-            operand = self._names.objects.get(operand, _NONE)
-        return c.Change(self._names.objects.get(name, _NONE), _OPERATIONS.get(kind, _NONE), _whole(operand))
+    def _change(self, name: str, kind: str, operand: Any) -> c.Change:
+        number = self._names.objects.get(operand, _NONE) if kind == "take" else _whole(operand)
+        return c.Change(self._names.objects.get(name, _NONE), _OPERATIONS.get(kind, _NONE), number)
 
     def _condition(self, name: str, bound: str, number: int) -> c.Condition:
         if bound not in _BOUNDS:

@@ -39,7 +39,7 @@ from ordup import (
     Behind, Cluster, Condition, Error, Forked, InUse, Lag, NotYet, Refused, Session, Site, Stopped, Unmet, Yes, add, at_least,
     at_most, check, check_series, max_, min_, mul, set_, take,
 )
-from ordup import _cluster, _cluster_library
+from ordup import _cluster, _cluster_answers, _cluster_library
 
 HERE = Path(__file__).resolve().parent
 IS_STAND_IN, IS_LONG = "--stand-in" in sys.argv, "--long" in sys.argv
@@ -512,10 +512,10 @@ class Misuse(ClusterCase):
             self.assertEqual(cluster.numbers().length, 0)
 
     def test_statuses_that_have_no_name(self):
-        self.assertRaisesRegex(Error, "read s x: the library's status is 10", _cluster._must, 10, "read", "s", "x")
-        self.assertRaisesRegex(Error, "the library's status is 128", _cluster._must, 128)
-        self.assertRaises(MemoryError, _cluster._must, 126)
-        self.assertRaises(ordup.Mixed, _cluster._must, 127)
+        self.assertRaisesRegex(Error, "read s x: the library's status is 10", _cluster_answers.must, 10, "read", "s", "x")
+        self.assertRaisesRegex(Error, "the library's status is 128", _cluster_answers.must, 128)
+        self.assertRaises(MemoryError, _cluster_answers.must, 126)
+        self.assertRaises(ordup.Mixed, _cluster_answers.must, 127)
 
     def test_memory_that_is_refused(self):
         cluster, session = self.forced(), Session()
@@ -925,7 +925,7 @@ class Header(unittest.TestCase):
     def test_the_names_of_the_refusals(self):
         page = (TOP / "docs/FORMATS.md").read_text(encoding="utf-8")
         names = {int(number): name for number, name in re.findall(r"^\| (\d+) `(\w+)` \|", page, re.M)}
-        self.assertEqual(dict(enumerate(_cluster._NAMES, 1)), names)
+        self.assertEqual(dict(enumerate(_cluster_answers._NAMES, 1)), names)
 
     def test_the_names_that_all_languages_share(self):
         for name in ("propose", "settle", "query", "relimit", "record", "read", "read_many", "read_when_level", "numbers", "lags", "finish",

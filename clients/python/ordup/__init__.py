@@ -57,8 +57,9 @@ from __future__ import annotations
 import subprocess
 from typing import Any, Iterable, List, Mapping, Optional, Sequence, Type, TypeVar, Union
 
-from . import _answers, _cluster
+from . import _answers, _cluster, _cluster_answers
 from ._cluster import *
+from ._cluster_answers import *
 from ._cluster_library import find_clusters
 from ._library import InProcess, check_text, find
 from ._pipe import Pipe, Program, path_of
@@ -69,9 +70,9 @@ from ._answers import answered_lines, check_lines, count_answers, outcomes_of, s
 __version__ = "0.3.0.dev0"
 __all__ = ["Store", "check", "check_series"]
 __all__ += _answers.__all__
-__all__ += _cluster.__all__
+__all__ += _cluster.__all__ + _cluster_answers.__all__
 
-for _it in [vars(module)[name] for module in (_answers, _cluster) for name in module.__all__]:
+for _it in [vars(module)[name] for module in (_answers, _cluster, _cluster_answers) for name in module.__all__]:
     if isinstance(_it, type):
         _it.__module__ = __name__  # a traceback names it as it is imported
 

@@ -9,27 +9,20 @@ import threading
 import time
 import weakref
 from ctypes import byref
-from dataclasses import dataclass, field
 from operator import index
 from threading import get_ident
-from typing import Any, Callable, Dict, Iterable, List, Literal, Mapping, NamedTuple, Optional, Sequence, Tuple, Type, Union
+from typing import Any, Callable, Dict, Iterable, List, Mapping, Optional, Sequence, Tuple, Type, Union
 
 from . import _cluster_library as c
-from ._answers import Change, Error, Refused, Scope
+from ._answers import Change, Error, Scope
+from ._cluster_answers import (
+    Charged, Condition, Forked, InUse, Lag, NotYet, Numbers, QueryEnd, Seen, SeenMany, Site, SiteNumbers, Unmet, failed_read, must,
+)
 from ._library import whole
 from ._way import seconds_of
 
-__all__ = [
-    "Behind", "Charged", "Closed", "Cluster", "Condition", "Forked", "InUse", "Lag", "Mixed", "NotYet", "Numbers", "Query", "QueryEnd",
-    "Seen", "SeenMany", "Session", "Site", "SiteNumbers", "Stopped", "Unmet", "add", "at_least", "at_most", "max_", "min_", "mul", "set_",
-    "take",
-]
+__all__ = ["Closed", "Cluster", "Query", "Session"]
 
-_NAMES = (
-    "Syntax", "NotStarted", "AlreadyStarted", "BadName", "NameTaken", "UnknownObject", "UnknownGroup", "UnknownSite", "OutOfRange",
-    "TooMany", "Empty", "Repeated", "LogFull", "NothingToSend", "FeedFull", "NothingToApply", "NothingToSettle", "UnknownQuery",
-    "QueryOpen", "OverImport", "Behind", "NotYet", "Stopped", "HeadPending", "LagOver", "NoMemory", "Mixed",
-)  # of the refusals, from 1
 _OPERATIONS = {name: number for number, name in enumerate(("add", "set", "mul", "max", "min", "take"))}
 _SCOPES = ("object", "group", "all", "count")
 _BOUNDS = {"at_least": 0, "at_most": 1}
@@ -40,170 +33,6 @@ _FORKED = -1  # in place of a thread's number
 _new = tuple.__new__  # of a named tuple, in half the time
 
 Calls = Dict[object, Tuple[int]]
-
-
-class Behind(Error):
-    """The site has applied `applied` updates, which is less than the session has seen."""
-
-    def __init__(self, applied: int) -> None:
-        super().__init__(applied)
-        self.applied = applied
-
-    def __str__(self) -> str:
-        return f"the site has applied {self.applied} updates, and the session has seen more"
-
-
-class NotYet(Error):
-    """The update `number` is numbered and stands, but is not acknowledged: the time is over, the cluster was stopped, or memory was
-    refused. Do not propose it again: `settle` waits for it. Of `finish` and `successor` it is the number of the last update."""
-
-    def __init__(self, number: int) -> None:
-        super().__init__(number)
-        self.number = number
-
-    def __str__(self) -> str:
-        return f"update {self.number} stands, and is not acknowledged yet"
-
-
-class Unmet(Error):
-    """The condition at `index`, from 0, is the first that is not met. Nothing was numbered."""
-
-    def __init__(self, index: int, condition: Condition) -> None:
-        super().__init__(index, condition)
-        self.index = index
-        self.condition = condition
-
-    def __str__(self) -> str:
-        return f"{self.condition.object} would not be {self.condition.bound.replace('_', ' ')} {self.condition.number}"
-
-
-class Stopped(Error):
-    """The cluster was stopped. Nothing was numbered."""
-
-
-class Mixed(Error):
-    """A site does not hold the result of the updates that it applied, which is a bug of ordup."""
-
-
-class Forked(Error):
-    """The cluster is in the process that this one was forked from, and lost here."""
-
-
-class InUse(Error):
-    """The session or the query is in another call. It takes one at a time."""
-
-
-class Condition(NamedTuple):
-    """What an object must be after an update for it to be numbered."""
-
-    object: str
-    bound: Literal["at_least", "at_most"]
-    number: int
-
-
-class Seen(NamedTuple):
-    """A value at a site, which has `applied` so many updates."""
-
-    value: int
-    applied: int
-
-
-class SeenMany(NamedTuple):
-    """Values of one state of a site, which has `applied` so many updates."""
-
-    values: Dict[str, int]
-    applied: int
-
-
-class Charged(NamedTuple):
-    """A value that a query read, what the read `imported`, and the `total` of its reads."""
-
-    value: int
-    imported: int
-    total: int
-
-
-class QueryEnd(NamedTuple):
-    """The `sum` of the values of all `reads`, no further than `total` from the sum at `place`: so many updates were acknowledged as the
-    query began."""
-
-    place: int
-    sum: int
-    total: int
-    reads: int
-
-
-class Numbers(NamedTuple):
-    """How many updates came before the cluster, how many there are with these, and how many of those are acknowledged."""
-
-    before: int
-    length: int
-    acknowledged: int
-
-
-class SiteNumbers(NamedTuple):
-    """How many updates a site was sent, has applied and has reported, and its `rounds`: how many of this cluster's waited for it."""
-
-    sent: int
-    applied: int
-    reported: int
-    rounds: int
-
-
-class Lag(NamedTuple):
-    """A limit of a site, and the weight of the acknowledged updates that the site has not reported."""
-
-    scope: Scope
-    amount: int
-    weight: int
-
-
-@dataclass(frozen=True)
-class Site:
-    """A site whose feed has room for `capacity` updates, 1 to 1,024, with the amount of each limit."""
-
-    capacity: int = 64
-    limits: Mapping[Scope, int] = field(default_factory=dict, hash=False)
-
-
-def add(number: int) -> Change:
-    """The change by which an object is so much more."""
-    return "add", number
-
-
-def set_(number: int) -> Change:
-    """The change by which an object is this."""
-    return "set", number
-
-
-def mul(number: int) -> Change:
-    """The change by which an object is so many times as much."""
-    return "mul", number
-
-
-def max_(number: int) -> Change:
-    """The change by which an object is at least this."""
-    return "max", number
-
-
-def min_(number: int) -> Change:
-    """The change by which an object is at most this."""
-    return "min", number
-
-
-def take(object: str) -> Change:
-    """The change by which an object is what another was before the update."""
-    return "take", object
-
-
-def at_least(object: str, number: int) -> Condition:
-    """The condition that an object is at least this after the update."""
-    return Condition(object, "at_least", number)
-
-
-def at_most(object: str, number: int) -> Condition:
-    """The condition that an object is at most this after the update."""
-    return Condition(object, "at_most", number)
 
 
 class Session:
@@ -282,9 +111,9 @@ class Cluster:
         """
         library, setup, at = c.find_clusters(), c.Handle(), ctypes.c_void_p()
         try:
-            _must(library.setup_open(byref(setup)), "cluster")
+            must(library.setup_open(byref(setup)), "cluster")
             names = _declare(library, setup, objects, sites, groups)
-            _must(library.open(byref(setup), _natural(before), byref(at)), "cluster")
+            must(library.open(byref(setup), _natural(before), byref(at)), "cluster")
             self._hold(library, names, at)
         finally:
             library.handle_close(byref(setup))
@@ -330,7 +159,7 @@ class Cluster:
         with self._gate:
             status = self._call(object(), lambda: self._library.start(self._at))
         if status != c.OPEN:
-            _must(status, "start")
+            must(status, "start")
 
     def stop(self) -> None:
         """Has proposals refused from now on, who waits answered, and each applier end once its site has applied what was sent."""
@@ -351,7 +180,7 @@ class Cluster:
                     while any(thread != me for thread, in list(self._calls.values())):
                         time.sleep(0.001)
                     if not self._is_closed:
-                        _must(self._library.close(self._at), "close")
+                        must(self._library.close(self._at), "close")
                         self._is_closed = True
                 finally:
                     self._barred_by = before
@@ -395,7 +224,7 @@ class Cluster:
             raise NotYet(number)
         if status == c.UNMET:
             raise Unmet(unmet.value, asked[unmet.value])
-        _must(status, "propose", *(f"{kind}:{name}:{operand}" for name, (kind, operand) in changes.items()))
+        must(status, "propose", *(f"{kind}:{name}:{operand}" for name, (kind, operand) in changes.items()))
         return number
 
     def _change(self, name: str, kind: str, operand: Any) -> c.Change:
@@ -420,7 +249,7 @@ class Cluster:
         status = self._call(session, lambda: _waited(wait, wait, c.NOT_YET, seconds))
         if status == c.NOT_YET:
             raise NotYet(number)
-        _must(status, "settle", number)
+        must(status, "settle", number)
 
     def finish(self, timeout: Optional[float] = None) -> None:
         """Waits until all updates are acknowledged and sent to each site, which then applies them, also after `stop`.
@@ -435,7 +264,7 @@ class Cluster:
         status = self._call(object(), lambda: _waited(wait, wait, c.NOT_YET, seconds))
         if status == c.NOT_YET:
             raise NotYet(self.numbers().length)
-        _must(status, "finish")
+        must(status, "finish")
 
     def read(self, session: Session, site: str, object: str, timeout: Optional[float] = 0) -> Seen:
         """Reads an object at a site, which has applied all that the session has seen. Else the site may have so many seconds for that.
@@ -462,7 +291,7 @@ class Cluster:
             if calls.get(session) is call:
                 del calls[session]
         if status:
-            raise _failed_read(status, seen.applied, site, object)
+            raise failed_read(status, seen.applied, site, object)
         return seen
 
     def read_when_level(self, session: Session, site: str, object: str, timeout: Optional[float] = None) -> Seen:
@@ -478,7 +307,7 @@ class Cluster:
 
         status = self._call(session, lambda: _waited(wait, wait, c.BEHIND, seconds))
         if status:
-            raise _failed_read(status, out.applied, site, object)
+            raise failed_read(status, out.applied, site, object)
         return Seen(out.value, out.applied)
 
     def read_many(self, session: Session, site: str, objects: Iterable[str], timeout: Optional[float] = 0) -> SeenMany:
@@ -496,7 +325,7 @@ class Cluster:
 
         status = self._call(session, lambda: once(0) if seconds == 0 else _waited(wait, wait, c.BEHIND, seconds))
         if status:
-            raise _failed_read(status, applied.value, site, *names)
+            raise failed_read(status, applied.value, site, *names)
         return SeenMany(dict(zip(names, values)), applied.value)
 
     def read_many_when_level(self, session: Session, site: str, objects: Iterable[str], timeout: Optional[float] = None) -> SeenMany:
@@ -510,7 +339,7 @@ class Cluster:
         Refused `UnknownSite` or `OutOfRange`.
         """
         query, it, most = Query(self, site), self._names.sites.get(site, _NONE), _natural(limit)
-        _must(self._call(query, lambda: self._library.begin(self._at, it, most, byref(query._at))), "begin", site, limit)
+        must(self._call(query, lambda: self._library.begin(self._at, it, most, byref(query._at))), "begin", site, limit)
         return query
 
     def relimit(self, site: str, scope: Scope, amount: int) -> int:
@@ -522,7 +351,7 @@ class Cluster:
         place, (kind, id) = ctypes.c_uint64(), self._names.scope(scope)
         it, most = self._names.sites.get(site, _NONE), _natural(amount)
         status = self._call(object(), lambda: self._library.relimit(self._at, it, kind, id, most, byref(place)))
-        _must(status, "relimit", site, scope, amount)
+        must(status, "relimit", site, scope, amount)
         return place.value
 
     def numbers(self) -> Numbers:
@@ -537,7 +366,7 @@ class Cluster:
         Refused `UnknownSite`.
         """
         out, it = c.SiteNumbers(), self._names.sites.get(site, _NONE)
-        _must(self._call(object(), lambda: self._library.site_count(self._at, it, byref(out))), "numbers", site)
+        must(self._call(object(), lambda: self._library.site_count(self._at, it, byref(out))), "numbers", site)
         return SiteNumbers(out.sent, out.applied, out.reported, out.rounds)
 
     def lags(self, site: str) -> Tuple[Lag, ...]:
@@ -546,7 +375,7 @@ class Cluster:
         Refused `UnknownSite`.
         """
         rows, count, it = (c.Lag * _LIMITS)(), ctypes.c_size_t(), self._names.sites.get(site, _NONE)
-        _must(self._call(object(), lambda: self._library.lags(self._at, it, rows, len(rows), byref(count))), "lags", site)
+        must(self._call(object(), lambda: self._library.lags(self._at, it, rows, len(rows), byref(count))), "lags", site)
         return tuple(Lag(self._names.scope_of(row.kind, row.id), row.amount, row.weight) for row in rows[: count.value])
 
     def record(self, site: str) -> bytes:
@@ -562,7 +391,7 @@ class Cluster:
             rows.append(text)
             return status
 
-        _must(self._call(object(), tell), "record", site)
+        must(self._call(object(), tell), "record", site)
         return rows[0]
 
     def _call(self, key: object, work: Callable[[], int]) -> int:
@@ -626,7 +455,7 @@ class Query:
         status = cluster._call(self, lambda: cluster._library.query_read(byref(self._at), the, byref(out)))
         if status == c.CLOSED:
             raise Error("the query has ended")
-        _must(status, "read", self._site, object)
+        must(status, "read", self._site, object)
         return Charged(out.value, out.imported, out.total)
 
     def end(self) -> QueryEnd:
@@ -641,7 +470,7 @@ class Query:
 
         status = self._cluster._call(self, end)
         if self._end_of is None:
-            _must(status, "end")
+            must(status, "end")
             raise Error("the query has ended")
         return self._end_of
 
@@ -675,7 +504,7 @@ class Closed:
             status = it._call(object(), lambda: it._library.successor(it._at, byref(at)))
         if status == c.NOT_YET:
             raise NotYet(it.numbers().length)
-        _must(status, "successor")
+        must(status, "successor")
         following = Cluster.__new__(Cluster)
         following._hold(it._library, it._names, at)
         return following
@@ -714,21 +543,21 @@ def _declare(
 ) -> _Names:
     names, id = _Names(), ctypes.c_uint32()
     for name, value in objects.items():
-        _must(library.setup_object(byref(setup), *_text(name), _whole(value), byref(id)), "object", name, value)
+        must(library.setup_object(byref(setup), *_text(name), _whole(value), byref(id)), "object", name, value)
         names.objects[name] = id.value
     for name, members in groups.items():
         listed = list(members)
         ids = (ctypes.c_uint32 * len(listed))(*(names.objects.get(member, _NONE) for member in listed))
-        _must(library.setup_group(byref(setup), *_text(name), ids, len(ids), byref(id)), "group", name, *listed)
+        must(library.setup_group(byref(setup), *_text(name), ids, len(ids), byref(id)), "group", name, *listed)
         names.groups[name] = id.value
     for name, it in sites.items():
         site = it if isinstance(it, Site) else Site(it)
-        _must(library.setup_site(byref(setup), *_text(name), _natural(site.capacity), byref(id)), "site", name, site.capacity)
+        must(library.setup_site(byref(setup), *_text(name), _natural(site.capacity), byref(id)), "site", name, site.capacity)
         names.sites[name] = id.value
         for scope, amount in site.limits.items():
             kind, of = names.scope(scope)
             status = library.setup_limit(byref(setup), names.sites[name], kind, of, _natural(amount))
-            _must(status, "limit", name, scope, amount)
+            must(status, "limit", name, scope, amount)
     return names
 
 
@@ -748,32 +577,6 @@ def _natural(number: int) -> int:
 
 def _array(kind: Type[ctypes.Structure], rows: Sequence[ctypes.Structure]) -> ctypes.Array[ctypes.Structure]:
     return (kind * len(rows))(*rows)
-
-
-def _must(status: int, *words: object) -> None:
-    """Raises what a status says, but DONE, of a call in these words."""
-    if status == c.DONE:
-        return
-    if status == c.NO_MEMORY:
-        raise MemoryError
-    if status == c.STOPPED:
-        raise Stopped("the cluster was stopped")
-    if status == c.MIXED:
-        raise Mixed("a site does not hold the result of the updates that it applied")
-    said = " ".join(str(word) for word in words)
-    if c.REFUSED < status <= c.REFUSED + len(_NAMES):
-        raise Refused(status - c.REFUSED, _NAMES[status - c.REFUSED - 1], said)
-    raise Error(f"{said}: the library's status is {status}")
-
-
-def _failed_read(status: int, applied: int, *words: object) -> Exception:
-    if status == c.BEHIND:
-        return Behind(applied)
-    try:
-        _must(status, "read", *words)
-    except Exception as why:
-        return why
-    raise AssertionError
 
 
 def _waited(first: Callable[[int], int], again: Callable[[int], int], unfinished: int, seconds: Optional[float]) -> int:

@@ -24,8 +24,8 @@ from ordup import (
     Read, Refused, Relimited, Reported, Round, Sent, Shown, Started, Waiting, Yes, check, check_series, line,
 )
 import test_cluster
-from test_cluster import Header
 from test_ends import Ends, Forks, Interrupts, Mute
+from test_header import Header
 from test_library import InProcess
 from test_package import Package
 from test_process import Process

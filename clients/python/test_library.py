@@ -80,7 +80,7 @@ class InProcess(TestCase):
             written.value = 9 * _library._ROOM
             return _library._MORE if room < written.value else 0
 
-        self.assertEqual(_library._whole(call), (0, bytes(9 * _library._ROOM)))
+        self.assertEqual(_library.whole(call), (0, bytes(9 * _library._ROOM)))
         self.assertEqual(len(rooms), 2)
 
     def test_two_stores_are_two(self):

@@ -4,7 +4,7 @@
 What both ways to a store have is tried on each: behind a pipe, and in the process, where the library is found. Without it one line
 says so. That is each command, each answer and each refusal of docs/FORMATS.md, the transcripts of the pages, 100,000 lines at once,
 processes that end early, and signals, threads and forks amid a call. The module's own examples are run too, and those of
-docs/CLIENTS.md.
+docs/CLIENTS.md. Where the library has clusters, test_cluster.py has their tests.
 """
 
 import doctest
@@ -23,7 +23,9 @@ from ordup import (
     Abandoned, Acked, Applied, BadLine, Begun, Certified, Declared, Ended, Malformed, MalformedInSeries, No, NoInSeries, Proposed,
     Read, Refused, Relimited, Reported, Round, Sent, Shown, Started, Waiting, Yes, check, check_series, line,
 )
+import test_cluster
 from test_ends import Ends, Forks, Interrupts, Mute
+from test_header import Header
 from test_library import InProcess
 from test_package import Package
 from test_process import Process
@@ -355,9 +357,23 @@ BY_BOTH = [Commands, Refusals, BadLines, ManyLines, Verdicts, Ends, Interrupts, 
 def load_tests(loader, tests, pattern):
     for program in [TestCase.program, None] if ordup.find() else [TestCase.program]:
         examples = {"program": program}
-        tests.addTest(doctest.DocTestSuite(ordup, extraglobs=examples))
+        tests.addTest(doctest.DocTestSuite(ordup, extraglobs=examples, test_finder=Examples()))
         tests.addTest(doctest.DocFileSuite(PAGE, module_relative=False, globs=examples))
-    return tests
+    return test_cluster.load_tests(loader, tests, pattern) if has_clusters() else tests
+
+
+class Examples(doctest.DocTestFinder):
+    """The examples of the stores alone."""
+
+    def find(self, *words, **options):
+        return [test for test in super().find(*words, **options) if not test.name.startswith("ordup.Cluster")]
+
+
+def has_clusters():
+    try:
+        return ordup.find_clusters()
+    except OSError:
+        return None
 
 
 if __name__ == "__main__":
@@ -369,13 +385,17 @@ if __name__ == "__main__":
             globals()[f"{case.__name__}InProcess"] = type(f"{case.__name__}InProcess", (case,), {"program": None})
     else:
         del InProcess
+    if has_clusters():
+        globals().update({f"Cluster{case.__name__}": case for case in test_cluster.CASES})
     signal.signal(signal.SIGINT, signal.default_int_handler)  # a shell starts what runs in its background with Ctrl-C ignored
-    faulthandler.dump_traceback_later(300, exit=True)  # a test that waits for ever has failed
+    faulthandler.dump_traceback_later(600, exit=True)  # a test that waits for ever has failed
     result = unittest.main(exit=False).result
     for _, why in result.skipped:
         print(f"not tried: {why}")
     if not ordup.find():
         print("not tried: a store in the process, since libordup.so is not found")
+    if not has_clusters():
+        print("not tried: clusters, since libordup.so is not found or has none")
     failed = len(result.failures) + len(result.errors)
     print(f"{result.testsRun - failed - len(result.skipped)} passed, {failed} failed")
     sys.exit(0 if result.wasSuccessful() and result.testsRun else 1)

@@ -56,5 +56,6 @@ class Package(unittest.TestCase):
         mypy = [sys.executable, "-m", "mypy"] if has("mypy") else [shutil.which("mypy")]
         if not mypy[0]:
             self.skipTest("the types of the package, since there is no mypy")
-        ran = subprocess.run([*mypy, "--strict", "--cache-dir=/dev/null", HERE / "ordup"], stdout=subprocess.PIPE)
+        files = [HERE / "ordup", *sorted(HERE.glob("examples/*.py"))]
+        ran = subprocess.run([*mypy, "--strict", "--cache-dir=/dev/null", *files], stdout=subprocess.PIPE)
         self.assertEqual(ran.returncode, 0, ran.stdout.decode())

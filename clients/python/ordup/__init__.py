@@ -1,4 +1,6 @@
-"""A store of ordup, in this process or behind a pipe.
+"""A store of ordup: for the threads of this process, or of lines, in this process or behind a pipe.
+
+A `Cluster` is shared by threads, which read at sites whose lag has a proved bound. `pydoc ordup.Cluster` begins with an example.
 
 A `Store` has a method for each command of docs/FORMATS.md. A method runs one line and returns its answer:
 
@@ -55,7 +57,10 @@ from __future__ import annotations
 import subprocess
 from typing import Any, Iterable, List, Mapping, Optional, Sequence, Type, TypeVar, Union
 
-from . import _answers
+from . import _answers, _cluster, _cluster_answers
+from ._cluster import *
+from ._cluster_answers import *
+from ._cluster_library import find_clusters
 from ._library import InProcess, check_text, find
 from ._pipe import Pipe, Program, path_of
 from ._answers import *
@@ -65,8 +70,9 @@ from ._answers import answered_lines, check_lines, count_answers, outcomes_of, s
 __version__ = "0.3.0.dev0"
 __all__ = ["Store", "check", "check_series"]
 __all__ += _answers.__all__
+__all__ += _cluster.__all__ + _cluster_answers.__all__
 
-for _it in [vars(_answers)[name] for name in _answers.__all__]:
+for _it in [vars(module)[name] for module in (_answers, _cluster, _cluster_answers) for name in module.__all__]:
     if isinstance(_it, type):
         _it.__module__ = __name__  # a traceback names it as it is imported
 

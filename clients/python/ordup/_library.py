@@ -9,16 +9,17 @@ import os
 import time
 import weakref
 from pathlib import Path
-from typing import Any, Optional, Tuple, Type
+from typing import Any, Callable, Optional, Tuple, Type, TypeVar
 
 from ._answers import Error, NoMemory, ProgramEnded, Refused, TimedOut, Unanswered
 from ._pipe import CHECKOUT
 from ._way import Answered, Way
 
-_VERSION = 1  # of the functions, as in ordup.h
+VERSION = 1  # of the functions, as in ordup.h
 _DONE, _MORE, _CLOSED, _OPEN, _NO_MEMORY, _NOT_STARTED, _UNKNOWN_SITE, _MALFORMED, _TOO_LONG, _NOT_YET = range(10)
 _ROOM = 65536  # for answers
 _PIECE = 4096  # about so many bytes of lines are run by one call, at most
+L = TypeVar("L")
 
 
 class _Handle(ctypes.Structure):
@@ -35,8 +36,8 @@ class Library:
             version = quick.ordup_version()
         except AttributeError as why:
             raise OSError(f"{path} is no library of ordup: {why}") from why
-        if version != _VERSION:
-            raise OSError(f"{path} has the version {version} of the library's functions, not {_VERSION}")
+        if version != VERSION:
+            raise OSError(f"{path} has the version {version} of the library's functions, not {VERSION}")
         try:  # a function that came later than the version
             self.check_series = long.ordup_check_series
         except AttributeError as why:
@@ -58,23 +59,28 @@ def _load(path: str) -> Library:
     return Library(path)
 
 
-def find() -> Optional[Library]:
-    """The library that the variable ORDUP_LIBRARY names; or else the one beside the module, in out/ of the checkout, or where the
-    loader of the system finds it; or None."""
+def found(load: Callable[[str], L]) -> Optional[L]:
+    """What `load` makes of the library that the variable ORDUP_LIBRARY names; or else of the one beside the module, in out/ of the
+    checkout, or where the loader of the system finds it; or None."""
     named = os.environ.get("ORDUP_LIBRARY")
     if named:
-        return _load(named)
+        return load(named)
     beside = Path(__file__).resolve().parent
     for folder in [beside, CHECKOUT / "out"] if CHECKOUT else [beside]:
         if (folder / "libordup.so").exists():
-            return _load(str(folder / "libordup.so"))
+            return load(str(folder / "libordup.so"))
     try:
-        return _load("libordup.so.1")
+        return load("libordup.so.1")
     except OSError:
         return None
 
 
-def _whole(call: Any, *words: Any) -> Tuple[int, bytes]:
+def find() -> Optional[Library]:
+    """The library for stores, or None."""
+    return found(_load)
+
+
+def whole(call: Any, *words: Any) -> Tuple[int, bytes]:
     """The status and the bytes of a function that gives all its bytes or none, and says how many they are."""
     room, written = _ROOM, ctypes.c_size_t()
     while True:
@@ -87,7 +93,7 @@ def _whole(call: Any, *words: Any) -> Tuple[int, bytes]:
 
 def check_text(check: Any, text: bytes) -> str:
     """The line that `ordup check` prints for a text, by a function that checks it."""
-    status, line = _whole(check, text, len(text))
+    status, line = whole(check, text, len(text))
     if status == _NO_MEMORY:
         raise MemoryError
     if status == _TOO_LONG:
@@ -157,7 +163,7 @@ class InProcess(Way):
     def _printed(self, line: str, call: Any, *words: Any) -> bytes:
         """What a job of the program prints. What it says instead is an exception."""
         with self._lock:
-            status, text = (_CLOSED, b"") if self._closed else _whole(call, self._handle, *words)
+            status, text = (_CLOSED, b"") if self._closed else whole(call, self._handle, *words)
         if status == _DONE:
             return text
         if status == _NOT_STARTED:

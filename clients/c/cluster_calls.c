@@ -241,8 +241,8 @@ static void count_signal(int signal) {
     signals++;
 }
 
-static void *wait_long(void *given) {
-    struct waiter *it = given;
+/* It has a frame of its own, since AddressSanitizer does not see that the frame of a thread that is cancelled ends. */
+__attribute__((noinline)) static void wait_long(struct waiter *it) {
     ordup_session session = ORDUP_SESSION, ahead = {2};
     ordup_change change = {TEA, ORDUP_ADD, 1};
     ordup_seen seen;
@@ -261,8 +261,12 @@ static void *wait_long(void *given) {
     else
         it->status = ordup_cluster_read_many_when_level(it->cluster, &ahead, YARD, &object, 1, ORDUP_FOREVER, &value, &applied);
     it->returned = 1;
+}
+
+static void *wait_then_end(void *given) {
+    wait_long(given);
     pthread_testcancel();
-    return it;
+    return given;
 }
 
 static void sleep_ms(long ms) {
@@ -283,7 +287,7 @@ static void waits(void) {
     for (int i = 0; i < WAITERS; i++) {
         memset(&them[i], 0, sizeof them[i]);
         them[i].cluster = cluster, them[i].what = i, them[i].status = NO;
-        pthread_create(&threads[i], NULL, wait_long, &them[i]);
+        pthread_create(&threads[i], NULL, wait_then_end, &them[i]);
     }
     for (int i = 0; i < WAITERS; i++)
         while (!them[i].begun)
@@ -328,9 +332,6 @@ static void rest(void) {
 
 /* Conditions, groups, and the numbers of sites. */
 static void conditions(void) {
-#ifdef STAND_IN
-    puts("not tried: conditions, groups, the numbers of sites and their lags, which the stand-in lacks");
-#else
     ordup_setup setup = ORDUP_SETUP;
     ordup_cluster *cluster = NULL;
     ordup_session session = ORDUP_SESSION;
@@ -369,7 +370,6 @@ static void conditions(void) {
     IS(ordup_cluster_lags(cluster, SHOP, lags, 4, &count), ORDUP_DONE);
     MUST(count == 1 && lags[0].kind == ORDUP_SCOPE_COUNT && lags[0].amount == 0 && lags[0].weight == 0);
     ordup_cluster_free(cluster);
-#endif
 }
 
 int main(void) {

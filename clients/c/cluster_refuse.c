@@ -124,7 +124,16 @@ static int is_short(uint32_t status) {
 
 enum { NO = 77, UPDATES = 12, SITES = 2, ROOM = 1 << 14 };
 
-struct result { char rows[SITES][ROOM]; size_t bytes[SITES]; int64_t values[SITES][2]; uint64_t place; ordup_charged read; ordup_ended ended; };
+struct result {
+    char rows[SITES][ROOM];
+    size_t bytes[SITES], count;
+    int64_t values[SITES][2];
+    uint64_t place, applied;
+    ordup_charged read;
+    ordup_ended ended;
+    ordup_site_numbers site;
+    ordup_lag lags[4];
+};
 
 /* Proposals without threads; then each applier runs as it does after `stop`; then close, records, and a successor with threads. */
 static void calls(struct result *out) {
@@ -132,7 +141,7 @@ static void calls(struct result *out) {
     ordup_cluster *cluster = NULL, *successor = NULL;
     ordup_session session = ORDUP_SESSION;
     ordup_query query = ORDUP_QUERY;
-    uint32_t id = NO;
+    uint32_t id = NO, both[2] = {0, 1};
     memset(out, 0, sizeof *out);
     out->place = NO;
     AGAIN(ordup_setup_open(&setup), ORDUP_DONE, setup.at == NULL && setup.mark == 0);
@@ -140,14 +149,22 @@ static void calls(struct result *out) {
     AGAIN(ordup_setup_object(&setup, "y", 1, 5, &id), ORDUP_DONE, id == 0);
     AGAIN(ordup_setup_site(&setup, "a", 1, 4, &id), ORDUP_DONE, id == 1);
     AGAIN(ordup_setup_site(&setup, "b", 1, 64, &id), ORDUP_DONE, id == 0);
+    AGAIN(ordup_setup_group(&setup, "g", 1, both, 2, &id), ORDUP_DONE, id == 1);
     AGAIN(ordup_setup_limit(&setup, 0, ORDUP_SCOPE_ALL, 0, 1000000), ORDUP_DONE, 1);
+    AGAIN(ordup_setup_limit(&setup, 0, ORDUP_SCOPE_GROUP, 0, 1000000), ORDUP_DONE, 1);
     AGAIN(ordup_cluster_open(&setup, 3, &cluster), ORDUP_DONE, cluster == NULL);
     ordup_handle_close(&setup);
     for (int i = 0; i < UPDATES; i++) {
         ordup_change changes[2] = {{0, ORDUP_ADD, i}, {1, ORDUP_MUL, 2}};
+        ordup_condition kept[2] = {{0, ORDUP_AT_MOST, 1000}, {1, ORDUP_AT_LEAST, 0}}, never = {1, ORDUP_AT_MOST, 4};
         uint64_t number = NO, before = session.seen;
+        size_t unmet = NO;
         uint32_t status;
-        while (is_short(status = ordup_cluster_propose(cluster, &session, changes, 2, 0, &number)))
+        while (is_short(status = ordup_cluster_propose_if(cluster, &session, changes, 2, &never, 1, 0, &number, &unmet)))
+            MUST(number == NO && unmet == NO && session.seen == before);
+        MUST(status == ORDUP_UNMET && number == NO && unmet == 0);
+        while (is_short(status = i % 2 ? ordup_cluster_propose_if(cluster, &session, changes, 2, kept, 2, 0, &number, &unmet)
+                                       : ordup_cluster_propose(cluster, &session, changes, 2, 0, &number)))
             MUST(number == NO && session.seen == before);
         MUST(status == ORDUP_DONE || status == ORDUP_REFUSED_NOT_YET);
         MUST(number == (uint64_t)i + 4);
@@ -170,13 +187,14 @@ static void calls(struct result *out) {
     }
     for (uint32_t at = 0; at < SITES; at++) {
         AGAIN(ordup_cluster_record(cluster, at, out->rows[at], ROOM, &out->bytes[at]), ORDUP_DONE, out->bytes[at] == 0);
-        for (uint32_t object = 0; object < 2; object++) {
-            ordup_seen seen;
-            session.seen = 3 + UPDATES;
-            AGAIN(ordup_cluster_read(cluster, &session, at, object, &seen), ORDUP_DONE, 1);
-            out->values[at][object] = seen.value;
-        }
+        ordup_seen seen;
+        session.seen = 3 + UPDATES;
+        AGAIN(ordup_cluster_read(cluster, &session, at, 0, &seen), ORDUP_DONE, 1);
+        AGAIN(ordup_cluster_read_many(cluster, &session, at, both, 2, out->values[at], &out->applied), ORDUP_DONE, 1);
+        MUST(seen.value == out->values[at][0] && seen.applied == out->applied && out->applied == 3 + UPDATES);
     }
+    AGAIN(ordup_cluster_site_count(cluster, 0, &out->site), ORDUP_DONE, out->site.sent == 0);
+    AGAIN(ordup_cluster_lags(cluster, 0, out->lags, 4, &out->count), ORDUP_DONE, out->count == 0);
     AGAIN(ordup_cluster_successor(cluster, &successor), ORDUP_DONE, successor == NULL);
     ordup_cluster_free(cluster);
     long before = threads;

@@ -1,5 +1,5 @@
-/* The threads of a cluster in C: callers that propose, settle and read what they wrote, readers whose values are compared with the log
- * afterwards, queries, a changer of limits, and one who looks at the numbers. Then the cluster is closed, and its successor goes on, so
+/* The threads of a cluster in C: callers that propose, some with conditions, settle, and read what they wrote, readers whose values are
+ * compared with the log afterwards, queries, a changer of limits, and one who looks at the numbers. Then the cluster is closed, and its successor goes on, so
  * many times as there are epochs. It prints what was done, and ends with status 0 where all that ordup_cluster.h promises was seen.
  *
  *     cluster_threads EPOCHS SETS [FOLDER]
@@ -15,15 +15,15 @@
 
 #include "ordup_cluster.h"
 
-enum { SITES = 4, CALLERS = 4, READERS = 4, OBJECTS = CALLERS + 2, SHARED = CALLERS, SAMPLES = 1 << 16, FIRST = 1000 };
+enum { SITES = 4, CALLERS = 4, READERS = 4, SHARED = CALLERS, STOCK = CALLERS + 2, OBJECTS = CALLERS + 3, FULL = 9, SAMPLES = 1 << 16, FIRST = 1000 };
 
 static ordup_cluster *cluster;
 static _Atomic int wrong, over;
-static _Atomic uint64_t done, waited, behind, queries, imported, relimits, samples_in_all, unmet_in_all;
+static _Atomic uint64_t done, waited, behind, queries, imported, relimits, samples_in_all, sales, unsold;
 static int sets, epochs;
 
-/* What each update added, by its number, to the caller's own object and to the shared ones. */
-static struct change { uint8_t caller; int8_t own, shared[2]; } *changes;
+/* What each update added, by its number, to the caller's own object, to the shared ones, and to the stock. */
+static struct change { uint8_t caller; int8_t own, shared[2], stock; } *changes;
 
 struct sample { uint64_t applied; int64_t value; uint32_t object; };
 static struct sample *samples[READERS];
@@ -42,25 +42,38 @@ static uint32_t next(uint64_t *state) {
     return (uint32_t)(*state >> 33);
 }
 
-/* A caller: each update adds 1 to its own object, and something to the shared ones. It has one session for all epochs. */
+/* A caller: each update adds 1 to its own object, and something to the shared ones. Each fourth one sells from the stock, which must not
+ * pass 0, or fills it where that fails, to at most FULL. It has one session for all epochs. */
 struct caller { uint32_t me; uint64_t state; ordup_session session; int64_t own; };
 
 static void *call(void *given) {
     struct caller *it = given;
     for (int set = 0; set < sets; set++) {
-        struct change made = {(uint8_t)it->me, 1, {(int8_t)(next(&it->state) % 7), (int8_t)(next(&it->state) % 3)}};
-        ordup_change list[3] = {{it->me, ORDUP_ADD, 1}, {SHARED, ORDUP_ADD, made.shared[0]}, {SHARED + 1, ORDUP_ADD, made.shared[1]}};
-        uint64_t number = 0, seen = it->session.seen;
-        uint32_t status;
-        if (set % 16 == 5) {
-            ordup_condition never = {SHARED, ORDUP_AT_LEAST, INT64_MAX};
-            size_t unmet = 9;
-            status = ordup_cluster_propose_if(cluster, &it->session, list, 3, &never, 1, ORDUP_FOREVER, &number, &unmet);
-            MUST(status == ORDUP_UNMET && unmet == 0 && number == 0 && it->session.seen == seen);
-            unmet_in_all++;
+        struct change made = {(uint8_t)it->me, 1, {(int8_t)(next(&it->state) % 7), (int8_t)(next(&it->state) % 3)}, 0};
+        ordup_change list[4] = {{it->me, ORDUP_ADD, 1}, {SHARED, ORDUP_ADD, made.shared[0]}, {SHARED + 1, ORDUP_ADD, made.shared[1]}};
+        uint64_t number = 0, seen = it->session.seen, timeout = next(&it->state) % 4 ? ORDUP_FOREVER : 0;
+        size_t unmet = 99;
+        uint32_t status = ORDUP_UNMET;
+        for (int attempt = 0; set % 4 == 1 && attempt < 2 && status == ORDUP_UNMET; attempt++) {
+            ordup_condition kept[2] = {{SHARED, ORDUP_AT_LEAST, 0}, {STOCK, ORDUP_AT_LEAST, 0}};
+            made.stock = -(int8_t)(1 + next(&it->state) % 4);
+            if (attempt) {
+                made.stock = (int8_t)(1 + next(&it->state) % 6);
+                kept[1] = (ordup_condition){STOCK, ORDUP_AT_MOST, FULL};
+            }
+            list[3] = (ordup_change){STOCK, ORDUP_ADD, made.stock};
+            status = ordup_cluster_propose_if(cluster, &it->session, list, 4, kept, 2, timeout, &number, &unmet);
+            if (status == ORDUP_UNMET) {
+                MUST(unmet == 1 && number == 0 && it->session.seen == seen);
+                made.stock = 0;
+                unsold++;
+            } else {
+                sales++;
+            }
         }
-        /* Each fourth time it does not wait, and settles what it then has to. */
-        status = ordup_cluster_propose(cluster, &it->session, list, 3, next(&it->state) % 4 ? ORDUP_FOREVER : 0, &number);
+        if (status == ORDUP_UNMET)
+            status = ordup_cluster_propose(cluster, &it->session, list, 3, timeout, &number);
+        /* Each fourth time it did not wait, and settles what it then has to. */
         if (status == ORDUP_REFUSED_NOT_YET) {
             MUST(it->session.seen == seen);
             status = ordup_cluster_settle(cluster, &it->session, number, ORDUP_FOREVER);
@@ -103,7 +116,8 @@ static void *look(void *which) {
             continue;
         }
         MUST(status == ORDUP_DONE && out.applied >= seen && session.seen == out.applied);
-        if (object >= SHARED) {
+        MUST(object != STOCK || (out.value >= 0 && out.value <= FULL));
+        if (object == SHARED || object == SHARED + 1) {
             MUST(out.value >= last[object - SHARED]);
             last[object - SHARED] = out.value;
         }
@@ -176,7 +190,7 @@ static void *count_all(void *none) {
 static void open_first(void) {
     ordup_setup setup = ORDUP_SETUP;
     uint32_t id;
-    char name[8];
+    char name[16];
     MUST(ordup_setup_open(&setup) == ORDUP_DONE);
     for (int i = 0; i < OBJECTS; i++)
         MUST(ordup_setup_object(&setup, name, (size_t)sprintf(name, "x%d", i), 0, &id) == ORDUP_DONE && id == (uint32_t)i);
@@ -201,6 +215,8 @@ static void compare(uint64_t length) {
         after[number][changes[number].caller] += 1;
         after[number][SHARED] += changes[number].shared[0];
         after[number][SHARED + 1] += changes[number].shared[1];
+        after[number][STOCK] += changes[number].stock;
+        MUST(after[number][STOCK] >= 0 && after[number][STOCK] <= FULL);
     }
     for (int reader = 0; reader < READERS; reader++) {
         for (size_t at = 0; at < sampled[reader]; at++) {
@@ -304,8 +320,10 @@ int main(int count, char **words) {
     for (int reader = 0; reader < READERS; reader++)
         free(samples[reader]);
     free(changes);
-    printf("%lu updates, %lu settled later, %lu unmet, %lu limits changed, %lu reads compared, %lu behind, %lu queries, %lu over: %s\n",
-           (unsigned long)done, (unsigned long)waited, (unsigned long)unmet_in_all, (unsigned long)relimits, (unsigned long)samples_in_all,
-           (unsigned long)behind, (unsigned long)queries, (unsigned long)imported, wrong ? "wrong" : "as promised");
+    printf("%lu updates, %lu settled later, %lu with conditions met, %lu not met, %lu limits changed, %lu reads compared, %lu behind, "
+           "%lu queries, %lu over: %s\n",
+           (unsigned long)done, (unsigned long)waited, (unsigned long)sales, (unsigned long)unsold, (unsigned long)relimits,
+           (unsigned long)samples_in_all, (unsigned long)behind, (unsigned long)queries, (unsigned long)imported,
+           wrong ? "wrong" : "as promised");
     return wrong;
 }

@@ -23,7 +23,7 @@
 #include <string.h>
 #include <time.h>
 
-enum { LINE = 64, LOOKS = 64, HEADS = 16, APPLIED_UNTOLD = 32, RETRY_MS = 10 };
+enum { LINE = 64, LOOKS = 64, HEADS = 16, MOST_SITES = 16, APPLIED_UNTOLD = 32, RETRY_MS = 10 };
 
 /* The most updates that may come before a cluster. */
 static const uint64_t MOST_BEFORE = 1000000000000000000u;
@@ -86,11 +86,11 @@ static void relax(void) {
 #endif
 }
 
-/* Sleeps until the bell rang after this was heard, or until a moment; with none, for any time. It answers whether it rang. */
-static bool wait_for(bell *it, uint64_t heard, const struct timespec *end) {
+/* Sleeps until the bell rang after this was heard, or until a moment; with none, for any time. */
+static void wait_for(bell *it, uint64_t heard, const struct timespec *end) {
     for (int look = 0; look < LOOKS; look++) {
         if (listen(it) != heard)
-            return true;
+            return;
         relax();
     }
     int state;
@@ -103,7 +103,6 @@ static bool wait_for(bell *it, uint64_t heard, const struct timespec *end) {
     pthread_mutex_unlock(&it->lock);
     atomic_fetch_sub(&it->sleepers, 1);
     pthread_setcancelstate(state, &state);
-    return in_time;
 }
 
 /* The moment so many milliseconds from now. */
@@ -125,6 +124,15 @@ static const struct timespec *end_of(uint64_t timeout_ms, struct timespec *at) {
         return NULL;
     *at = in_ms(timeout_ms);
     return at;
+}
+
+/* Whether there is an end, and it is over. */
+static bool is_past(const struct timespec *end) {
+    struct timespec at;
+    if (!end)
+        return false;
+    clock_gettime(CLOCK_MONOTONIC, &at);
+    return at.tv_sec > end->tv_sec || (at.tv_sec == end->tv_sec && at.tv_nsec >= end->tv_nsec);
 }
 
 /* ---- a cluster ---- */
@@ -254,25 +262,26 @@ static uint32_t until(ordup_cluster *it, uint64_t number, uint64_t timeout_ms) {
     struct timespec at;
     const struct timespec *end = end_of(timeout_ms, &at);
     bell *head = &it->heads[number % HEADS];
-    bool in_time = true, turns = false;
+    bool turns = false;
     uint32_t status = ORDUP_DONE;
     for (;;) {
+        bool is_late = is_past(end);
         uint64_t heard_of_head = listen(head), heard = listen(&it->told), looked = atomic_load(&it->looked);
         if (is_reached(it, number))
             break;
-        if (!in_time || atomic_load(&it->stopped)) {
+        if (is_late || atomic_load(&it->stopped)) {
             status = ORDUP_REFUSED_NOT_YET;
             break;
         }
         if (number > atomic_load(&it->acked) + 1) {
-            in_time = wait_for(head, heard_of_head, end);
+            wait_for(head, heard_of_head, end);
             continue;
         }
         if (!turns)
             atomic_fetch_add(&it->turners, 1);
         turns = true;
         if (looked == heard) {
-            in_time = wait_for(&it->told, heard, end);
+            wait_for(&it->told, heard, end);
             continue;
         }
         ordup_told told;
@@ -313,26 +322,9 @@ static bool open_waits(ordup_cluster *it) {
     return is_open;
 }
 
-/* Opens the sites of a book, the last of which is open, and what they wait by. */
-static uint32_t open_sites(ordup_cluster *it) {
-    uint32_t index = it->sites - 1, status = ORDUP_DONE;
-    for (uint32_t site = 0; site < it->sites; site++) {
-        it->at[site].cluster = it;
-        it->at[site].index = site;
-    }
-    while (index > 0 && status == ORDUP_DONE) {
-        ordup_handle handle = ORDUP_HANDLE;
-        status = ordup_site_open(&it->book, &handle, &index);
-        if (status == ORDUP_DONE)
-            it->at[index].handle = handle;
-    }
-    if (status == ORDUP_DONE && !open_waits(it))
-        status = ORDUP_REFUSED_NO_MEMORY;
-    return status;
-}
-
-/* A cluster of a book, and of the last of its sites. */
-static uint32_t open_cluster(const ordup_handle *book, const ordup_handle *last, uint32_t sites, uint64_t before, ordup_cluster **cluster) {
+/* A cluster of a book and of its sites, which it takes where it answers DONE. */
+static uint32_t open_cluster(const ordup_handle *book, const ordup_handle *handles, uint32_t sites, uint64_t before,
+                             ordup_cluster **cluster) {
     size_t bytes = (sizeof(ordup_cluster) + sites * sizeof(site) + LINE - 1) / LINE * LINE;
     ordup_cluster *it = aligned_alloc(LINE, bytes);
     if (!it)
@@ -340,32 +332,50 @@ static uint32_t open_cluster(const ordup_handle *book, const ordup_handle *last,
     memset(it, 0, bytes);
     it->before = before;
     it->sites = sites;
-    it->book = *book;
-    it->at[sites - 1].handle = *last;
-    uint32_t status = open_sites(it);
-    if (status == ORDUP_DONE) {
-        *cluster = it;
-    } else {
-        it->book = (ordup_handle)ORDUP_HANDLE;
-        it->at[sites - 1].handle = (ordup_handle)ORDUP_HANDLE;
+    if (!open_waits(it)) {
         ordup_cluster_free(it);
+        return ORDUP_REFUSED_NO_MEMORY;
     }
-    return status;
+    it->book = *book;
+    for (uint32_t index = 0; index < sites; index++) {
+        it->at[index].handle = handles[index];
+        it->at[index].cluster = it;
+        it->at[index].index = index;
+    }
+    *cluster = it;
+    return ORDUP_DONE;
+}
+
+/* Opens the sites of a book, and says how many there are. */
+static uint32_t open_sites(ordup_handle *book, ordup_handle *handles, uint32_t *sites) {
+    ordup_handle one = ORDUP_HANDLE;
+    uint32_t index, status;
+    while ((status = ordup_site_open(book, &one, &index)) == ORDUP_DONE) {
+        if (index >= MOST_SITES) {
+            ordup_handle_close(&one);
+            return ORDUP_OTHER;
+        }
+        handles[index] = one;
+        one = (ordup_handle)ORDUP_HANDLE;
+        ++*sites;
+    }
+    return status == ORDUP_REFUSED_UNKNOWN_SITE ? ORDUP_DONE : status;
 }
 
 uint32_t ordup_cluster_open(ordup_setup *setup, uint64_t before, ordup_cluster **cluster) {
     static _Atomic uint64_t clusters;
-    ordup_handle book = ORDUP_HANDLE, last = ORDUP_HANDLE;
-    uint32_t index = 0;
+    ordup_handle book = ORDUP_HANDLE, handles[MOST_SITES] = {ORDUP_HANDLE};
+    uint32_t sites = 0;
     if (before > MOST_BEFORE)
         return ORDUP_REFUSED_LOG_FULL;
     uint32_t status = ordup_book_open(setup, atomic_fetch_add(&clusters, 1), &book);
     if (status == ORDUP_DONE)
-        status = ordup_site_open(&book, &last, &index);
+        status = open_sites(&book, handles, &sites);
     if (status == ORDUP_DONE)
-        status = open_cluster(&book, &last, index + 1, before, cluster);
+        status = open_cluster(&book, handles, sites, before, cluster);
     if (status != ORDUP_DONE) {
-        ordup_handle_close(&last);
+        for (uint32_t index = 0; index < MOST_SITES; index++)
+            ordup_handle_close(&handles[index]);
         ordup_handle_close(&book);
     }
     return status;
@@ -599,13 +609,13 @@ static uint32_t read_level(ordup_cluster *it, ordup_session *session, const read
     struct timespec at;
     const struct timespec *end = end_of(timeout_ms, &at);
     bell *moved = &it->at[read->site].moved;
-    for (bool in_time = true;;) {
+    for (;;) {
         uint64_t heard = listen(moved);
-        bool stopping = atomic_load(&it->stopped);
+        bool is_over = is_past(end) || atomic_load(&it->stopped);
         status = read_once(it, session, read);
-        if (status != ORDUP_REFUSED_BEHIND || !in_time || stopping)
+        if (status != ORDUP_REFUSED_BEHIND || is_over)
             return status;
-        in_time = wait_for(moved, heard, end);
+        wait_for(moved, heard, end);
     }
 }
 
@@ -644,9 +654,8 @@ uint32_t ordup_cluster_query_read(ordup_query *query, uint32_t object, ordup_cha
     uint32_t status = ordup_query_read(&query->handle, &here->handle, object, &answer);
     pthread_mutex_unlock(&here->lock);
     if (status == ORDUP_DONE) {
-        out->value = answer.value;
-        out->import = answer.import;
-        out->total = answer.total;
+        answer.place += query->before;
+        *out = answer;
     }
     return status;
 }

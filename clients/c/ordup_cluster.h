@@ -33,10 +33,10 @@
  * - Any thread may make any call at any time, but `open`, `start`, `join`, `close`, `successor` and `free`: those of one cluster are made
  *   by one thread, and nobody calls a cluster that is being freed. One thread at a time uses a session or a query.
  * - No pointer is null, unless for an array of no elements, and none overlap.
- * - No call is made while another takes a lock of its own in a signal handler, or in the forked child of a process: there a cluster is
- *   lost, and only `exec` or `_exit` is left. A signal ends no wait.
- * - No call is a point of cancellation: a thread that is cancelled ends after it. So deferred cancellation, as threads begin with, does no
- *   harm. The other kind is not allowed in any of them.
+ * - No call is made from a signal handler, or in the forked child of a process: the clusters of the parent are lost there, and have no
+ *   threads. A signal that comes while a call waits does not end the wait.
+ * - No call is a point of cancellation: a thread that is cancelled ends after the call. So deferred cancellation does no harm, which is how
+ *   threads begin. A thread with asynchronous cancellation makes no call.
  * - A call has 128 KB of stack.
  *
  * Who waits sleeps, and what it waits for wakes it. A cluster at rest takes no time of a processor. Times are in milliseconds, of a clock
@@ -208,7 +208,8 @@ uint32_t ordup_cluster_read_many_when_level(ordup_cluster *cluster, ordup_sessio
  * OPEN: `query` is one that has not ended. REFUSED_UNKNOWN_SITE, REFUSED_OUT_OF_RANGE for the limit, REFUSED_NO_MEMORY. */
 uint32_t ordup_cluster_begin(ordup_cluster *cluster, uint32_t site, uint64_t import_limit, ordup_query *query);
 
-/* Reads an object for a query: its value, what that imports, and what all reads of the query import. Of `out` these three are written.
+/* Reads an object for a query: its value, what that imports, what all reads of the query import, how many updates were acknowledged as it
+ * began, and how many reads it made.
  *
  * CLOSED: `query` is none. REFUSED_UNKNOWN_OBJECT, REFUSED_TOO_MANY after 256 reads, REFUSED_OVER_IMPORT. */
 uint32_t ordup_cluster_query_read(ordup_query *query, uint32_t object, ordup_charged *out);

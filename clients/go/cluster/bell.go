@@ -30,9 +30,9 @@ func (b *bell) ring() {
 	}
 }
 
-// waitFor sleeps until the bell rang after this was heard, or the context ended, whose error it gives then. It counts itself, then compares
-// and takes the channel under the lock, and sleeps without it.
-func (b *bell) waitFor(ctx context.Context, heard uint64) (err error) {
+// waitFor sleeps until the bell rang after this was heard, or the context ended. It counts itself, then compares and takes the channel under the
+// lock, and sleeps without it.
+func (b *bell) waitFor(ctx context.Context, heard uint64) {
 	b.sleepers.Add(1)
 	b.lock.Lock()
 	if b.listen() == heard {
@@ -44,11 +44,9 @@ func (b *bell) waitFor(ctx context.Context, heard uint64) (err error) {
 		select {
 		case <-woken:
 		case <-ctx.Done():
-			err = ctx.Err()
 		}
 	} else {
 		b.lock.Unlock()
 	}
 	b.sleepers.Add(-1)
-	return err
 }

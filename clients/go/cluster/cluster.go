@@ -15,7 +15,8 @@ const (
 	appliedUntold = 32
 	// Where memory was refused nobody rings once there is some, so the keeper tries again after this time.
 	retry = 10 * time.Millisecond
-	// The most updates that may come before a cluster.
+	// The most sites that there are, and the most updates that may come before a cluster.
+	mostSites  = 16
 	mostBefore = 1_000_000_000_000_000_000
 )
 
@@ -82,18 +83,8 @@ func Open(setup Setup) (*Cluster, error) {
 func open(setup *setup, before uint64) (*Cluster, error) {
 	c := &Cluster{before: before}
 	status := c.book.open(setup, clusters.Add(1))
-	for index := uint32(1); status == statusDone && index > 0; {
-		// The last site comes first.
-		var last site
-		index, status = last.open(&c.book)
-		if status != statusDone {
-			last.close()
-			break
-		}
-		if c.sites == nil {
-			c.sites = make([]room, index+1)
-		}
-		c.sites[index].site = last
+	if status == statusDone {
+		status = c.openSites()
 	}
 	if err := status.fault(); err != nil {
 		c.release()
@@ -106,6 +97,28 @@ func open(setup *setup, before uint64) (*Cluster, error) {
 	go c.keeper()
 	runtime.SetFinalizer(c, (*Cluster).release)
 	return c, nil
+}
+
+// openSites opens the sites of the book, which come in any order.
+func (c *Cluster) openSites() status {
+	c.sites = make([]room, mostSites)
+	for count := 0; ; count++ {
+		var one site
+		index, status := one.open(&c.book)
+		if status == statusDone && index < mostSites {
+			c.sites[index].site = one
+			continue
+		}
+		one.close()
+		switch status {
+		case statusDone:
+			return statusOther
+		case statusNoSite:
+			c.sites = c.sites[:count]
+			return statusDone
+		}
+		return status
+	}
 }
 
 // release gives the memory back. Whoever calls the cluster then is told that it is closed.
@@ -224,22 +237,19 @@ func (c *Cluster) isReached(number uint64) bool {
 }
 
 // until waits until an update is acknowledged, or for the number 0 until no work is left, and makes turns meanwhile if that is its to do. Each
-// time it listens to the bell of its update and to told, reads looked, then looks whether it is there, then whether it may wait; before the
+// time it looks whether its context ended, listens to the bell of its update and to told, reads looked, then looks whether it is there, then whether it may wait; before the
 // update is the head it sleeps on the bell, and then on told, as long as no site told anything new. It leaves with handOn.
 func (c *Cluster) until(ctx context.Context, number uint64) (err error) {
 	if c.isReached(number) {
 		return nil
 	}
 	head := &c.heads[number%headBells]
-	var ended error
 	turns := false
 	for {
+		ended := ctx.Err()
 		heardOfHead, heard, looked := head.listen(), c.told.listen(), c.looked.Load()
 		if c.isReached(number) {
 			break
-		}
-		if ended == nil {
-			ended = ctx.Err()
 		}
 		if ended != nil {
 			err = ended
@@ -250,7 +260,7 @@ func (c *Cluster) until(ctx context.Context, number uint64) (err error) {
 			break
 		}
 		if number > c.acked.Load()+1 {
-			ended = head.waitFor(ctx, heardOfHead)
+			head.waitFor(ctx, heardOfHead)
 			continue
 		}
 		if !turns {
@@ -258,7 +268,7 @@ func (c *Cluster) until(ctx context.Context, number uint64) (err error) {
 		}
 		turns = true
 		if looked == heard {
-			ended = c.told.waitFor(ctx, heard)
+			c.told.waitFor(ctx, heard)
 			continue
 		}
 		var is told

@@ -62,6 +62,18 @@ func notTried(t *testing.T, what string) {
 	}
 }
 
+// charges is what a query read, and tried what of it is tried: of the stand-in not the reference, nor how many reads there were.
+func charges(value int64, imports, total, place, reads uint64) Charged {
+	return tried(Charged{value, imports, total, place, reads})
+}
+
+func tried(charged Charged) Charged {
+	if isStandIn {
+		charged.Place, charged.Reads = 0, 0
+	}
+	return charged
+}
+
 var always = context.Background()
 
 // soon is a context that ends after a while.
@@ -225,7 +237,7 @@ func TestMisuse(t *testing.T) {
 	_, err = q.Read(9)
 	fails(t, ErrUnknownObject, err)
 	charged, err := q.Read(tea)
-	isGiven(t, Charged{40, 0, 0}, charged, err)
+	isGiven(t, charges(40, 0, 0, 5, 1), tried(charged), err)
 }
 
 func TestAnUpdateHasAtMost64Changes(t *testing.T) {
@@ -265,7 +277,7 @@ func TestAQueryImportsNoMoreThanItsLimit(t *testing.T) {
 		charged, status := q.query.read(&c.sites[yard].site, tea)
 		fails(t, it.wanted, status.fault())
 		if it.wanted == nil {
-			isGiven(t, Charged{40, 7, 7}, charged, nil)
+			isGiven(t, charges(40, 7, 7, 2, 1), tried(charged), nil)
 		}
 		ended, err := q.End()
 		isGiven(t, it.ended, ended, err)

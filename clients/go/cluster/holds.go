@@ -39,9 +39,11 @@ const (
 	statusDone    = status(C.ORDUP_DONE)
 	statusMore    = status(C.ORDUP_MORE)
 	statusClosed  = status(C.ORDUP_CLOSED)
+	statusOther   = status(C.ORDUP_OTHER)
 	statusUnmet   = status(C.ORDUP_UNMET)
 	statusRefused = status(C.ORDUP_REFUSED)
 	statusBehind  = statusRefused + 21
+	statusNoSite  = statusRefused + 8
 	statusNoRoom  = statusRefused + 26
 )
 
@@ -250,7 +252,7 @@ func (b *book) close() {
 
 type site struct{ at *C.held_site }
 
-// open opens the last site of a book that is not open, and gives its index.
+// open opens a site of a book that is not open, and gives its index. statusNoSite: all are.
 func (s *site) open(of *book) (uint32, status) {
 	if s.at = (*C.held_site)(C.zeroed(C.sizeof_held_site)); s.at == nil {
 		return 0, statusNoRoom
@@ -316,7 +318,7 @@ func (q *query) read(at *site, object Object) (Charged, status) {
 	}
 	status := status(C.ordup_query_read(&q.at.handle, &at.at.handle, C.uint32_t(object), &q.at.charged))
 	it := &q.at.charged
-	return Charged{int64(it.value), uint64(it._import), uint64(it.total)}, status
+	return Charged{int64(it.value), uint64(it._import), uint64(it.total), uint64(it.place), uint64(it.reads)}, status
 }
 
 func (q *query) end() (Ended, status) {

@@ -88,7 +88,8 @@ func (c *Cluster) ReadManyWhenLevel(ctx context.Context, session *Session, at Si
 	return values, applied, err
 }
 
-// readLevel reads until the site is not behind: it listens to the bell of the site, looks whether it is stopped, reads, and sleeps.
+// readLevel reads until the site is not behind: it listens to the bell of the site, looks whether the context ended or the cluster is stopped, reads,
+// and sleeps.
 func (c *Cluster) readLevel(ctx context.Context, at Site, readOnce func() error) error {
 	err := readOnce()
 	var behind ErrBehind
@@ -96,29 +97,28 @@ func (c *Cluster) readLevel(ctx context.Context, at Site, readOnce func() error)
 		return err
 	}
 	moved := &c.sites[at].moved
-	var ended error
 	for {
 		heard := moved.listen()
-		stopping := c.stopped.Load()
+		ended := ctx.Err()
+		if ended == nil && c.stopped.Load() {
+			ended = ErrStopped
+		}
 		err = readOnce()
 		if !errors.As(err, &behind) {
 			return err
 		}
-		if ended == nil && stopping {
-			ended = ErrStopped
-		}
 		if ended != nil {
 			return ErrBehind{behind.Applied, ended}
 		}
-		ended = moved.waitFor(ctx, heard)
+		moved.waitFor(ctx, heard)
 	}
 }
 
 // Charged is what a query read: a value, no further than Import from that at the query's reference. Total is what all its reads imported, in
-// the unit of the values.
+// the unit of the values. Place is the reference: how many updates were acknowledged as the query began. Reads is how many it made.
 type Charged struct {
-	Value         int64
-	Import, Total uint64
+	Value                       int64
+	Import, Total, Place, Reads uint64
 }
 
 // Ended is a query that ended: how many updates were acknowledged as it began, its reference, and the sums of its values and of its imports,
@@ -167,6 +167,7 @@ func (q *Query) Read(object Object) (Charged, error) {
 	if err := status.fault(); err != nil {
 		return Charged{}, err
 	}
+	charged.Place += q.cluster.before
 	return charged, nil
 }
 

@@ -184,13 +184,12 @@ func (c *Cluster) publish(heard uint64) {
 // tells after it.
 func (c *Cluster) number(changes []Change, conditions []Condition) (told, error) {
 	c.lock.Lock()
-	if c.isClosing {
-		c.lock.Unlock()
-		return told{}, ErrStopped
-	}
 	heard := c.told.listen()
 	was := c.last
-	is, status := c.book.propose(changes, conditions)
+	is, status := was, statusStopped
+	if !c.isClosing {
+		is, status = c.book.propose(changes, conditions)
+	}
 	if status == statusDone {
 		c.last = is
 		c.publish(heard)
@@ -230,10 +229,10 @@ func (c *Cluster) turn() (told, error) {
 
 // isReached is whether an update is acknowledged; of the number 0, whether no work is left.
 func (c *Cluster) isReached(number uint64) bool {
-	if number == 0 {
-		return !c.hasWork.Load()
+	if number > 0 {
+		return c.acked.Load() >= number
 	}
-	return c.acked.Load() >= number
+	return !c.hasWork.Load()
 }
 
 // until waits until an update is acknowledged, or for the number 0 until no work is left, and makes turns meanwhile if that is its to do. Each

@@ -44,6 +44,7 @@ const (
 	statusRefused = status(C.ORDUP_REFUSED)
 	statusBehind  = statusRefused + 21
 	statusNoSite  = statusRefused + 8
+	statusStopped = statusRefused + 23
 	statusNoRoom  = statusRefused + 26
 )
 

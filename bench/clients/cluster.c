@@ -1,7 +1,8 @@
 /* Measures a cluster of a program in C beside a plain mutex and an array: `cluster [KIND..]`. bench/clients/cluster builds and runs it.
  *
- * A row has the kind, how many threads, what one of them is of ordup, and of the plain program, and the ratio. Each number is the shortest
- * of five runs, or of forty short ones where it is a read; each run of ordup stands beside one of the plain program.
+ * A row has the kind, how many threads, what one of them takes of ordup, and of the plain program, and the ratio; and then the same of what
+ * it takes of the processors, which says more where others use these. Each number is the shortest of five runs, or of forty short ones
+ * where it is a read; each run of ordup stands beside one of the plain program.
  *
  *   reads-own      a read, each thread at a site of its own; of the plain program, at an array with a lock of its own
  *   reads-one      a read, all threads at one site, or at one array
@@ -87,18 +88,22 @@ static void *run_job(void *given) {
     return NULL;
 }
 
+/* How many seconds something takes, and how many of the processors. */
+struct took { double passed, processors; };
+#define LONG {1e9, 1e9}
+
 /* How many seconds so many threads take, each with as much to do. */
-static double time_jobs(void (*make)(struct job *), int threads, uint64_t count, int is_apart) {
+static struct took time_jobs(void (*make)(struct job *), int threads, uint64_t count, int is_apart) {
     pthread_t them[16];
     struct job jobs[16];
-    double begun = seconds(CLOCK_MONOTONIC);
+    double begun = seconds(CLOCK_MONOTONIC), used = seconds(CLOCK_PROCESS_CPUTIME_ID);
     for (int i = 0; i < threads; i++) {
         jobs[i] = (struct job){is_apart ? i % SITES : 0, count, make, 0};
         pthread_create(&them[i], NULL, run_job, &jobs[i]);
     }
     for (int i = 0; i < threads; i++)
         pthread_join(them[i], NULL);
-    return seconds(CLOCK_MONOTONIC) - begun;
+    return (struct took){seconds(CLOCK_MONOTONIC) - begun, seconds(CLOCK_PROCESS_CPUTIME_ID) - used};
 }
 
 static void read_ordup(struct job *job) {
@@ -185,7 +190,7 @@ static void round_plain(struct job *job) {
     }
 }
 
-static double time_rounds_plain(int threads, uint64_t count, uint64_t lag) {
+static struct took time_rounds_plain(int threads, uint64_t count, uint64_t lag) {
     pthread_t appliers[SITES];
     struct job jobs[SITES];
     may_lag = lag;
@@ -196,7 +201,7 @@ static double time_rounds_plain(int threads, uint64_t count, uint64_t lag) {
         jobs[at] = (struct job){at, 0, apply_plain, 0};
         pthread_create(&appliers[at], NULL, run_job, &jobs[at]);
     }
-    double took = time_jobs(round_plain, threads, count, 0);
+    struct took took = time_jobs(round_plain, threads, count, 0);
     pthread_mutex_lock(&log_lock);
     plain_stops = 1;
     for (int at = 0; at < SITES; at++)
@@ -207,38 +212,44 @@ static double time_rounds_plain(int threads, uint64_t count, uint64_t lag) {
     return took;
 }
 
-static double time_rounds_ordup(int threads, uint64_t count, int64_t limit) {
+static struct took time_rounds_ordup(int threads, uint64_t count, int64_t limit) {
     open_cluster(limit);
-    double took = time_jobs(update_ordup, threads, count, 0);
+    struct took took = time_jobs(update_ordup, threads, count, 0);
     close_cluster();
     return took;
 }
 
 /* ---- rows ---- */
 
-static void print_row(const char *kind, int threads, double ordup, double other, const char *unit) {
-    printf("| %s | %d | %.1f %s | %.1f %s | %.2f |\n", kind, threads, ordup, unit, other, unit, ordup / other);
+/* A row, of what `by` of them took in all. */
+static void print_row(const char *kind, int threads, struct took ordup, struct took other, double by, const char *unit) {
+    printf("| %s | %d | %.1f %s | %.1f %s | %.2f ", kind, threads, ordup.passed / by, unit, other.passed / by, unit,
+           ordup.passed / other.passed);
+    printf("| %.1f %s | %.1f %s | %.2f |\n", ordup.processors / by, unit, other.processors / by, unit,
+           ordup.processors / other.processors);
     fflush(stdout);
 }
 
-static void least(double *is, double now) {
-    if (now < *is)
-        *is = now;
+static void least(struct took *is, struct took now) {
+    if (now.passed < is->passed)
+        is->passed = now.passed;
+    if (now.processors < is->processors)
+        is->processors = now.processors;
 }
 
 static void reads(const char *kind, int threads, uint64_t count, int is_apart) {
-    double ordup = 1e9, other = 1e9;
+    struct took ordup = LONG, other = LONG;
     open_cluster(-1);
     for (int i = 0; i < READ_RUNS; i++) {
         least(&ordup, time_jobs(read_ordup, threads, count, is_apart));
         least(&other, time_jobs(read_plain, threads, count, is_apart));
     }
     close_cluster();
-    print_row(kind, threads, ordup * 1e9 / (double)count, other * 1e9 / (double)count, "ns");
+    print_row(kind, threads, ordup, other, (double)count * 1e-9, "ns");
 }
 
 static void reads_beside(int threads, uint64_t count) {
-    double took[2] = {1e9, 1e9};
+    struct took took[2] = {LONG, LONG};
     for (int i = 0; i < RUNS; i++) {
         for (int is_plain = 0; is_plain < 2; is_plain++) {
             pthread_t writer;
@@ -253,25 +264,25 @@ static void reads_beside(int threads, uint64_t count) {
         }
     }
     over = 0;
-    print_row("reads-beside", threads, took[0] * 1e9 / (double)count, took[1] * 1e9 / (double)count, "ns");
+    print_row("reads-beside", threads, took[0], took[1], (double)count * 1e-9, "ns");
 }
 
 static void updates(int threads, uint64_t count) {
-    double ordup = 1e9, other = 1e9;
+    struct took ordup = LONG, other = LONG;
     for (int i = 0; i < RUNS; i++) {
         least(&ordup, time_rounds_ordup(threads, count, -1));
         least(&other, time_jobs(update_plain, threads, count, 0));
     }
-    print_row("update", threads, ordup * 1e9 / (double)count / threads, other * 1e9 / (double)count / threads, "ns");
+    print_row("update", threads, ordup, other, (double)count * threads * 1e-9, "ns");
 }
 
 static void rounds(const char *kind, int threads, uint64_t count, int64_t limit) {
-    double ordup = 1e9, other = 1e9;
+    struct took ordup = LONG, other = LONG;
     for (int i = 0; i < RUNS; i++) {
         least(&ordup, time_rounds_ordup(threads, count, limit));
         least(&other, time_rounds_plain(threads, count, (uint64_t)limit));
     }
-    print_row(kind, threads, ordup * 1e6 / (double)count / threads, other * 1e6 / (double)count / threads, "µs");
+    print_row(kind, threads, ordup, other, (double)count * threads * 1e-6, "µs");
 }
 
 static void idle(void) {
@@ -283,7 +294,7 @@ static void idle(void) {
     usleep(100000);
     double cpu = seconds(CLOCK_PROCESS_CPUTIME_ID);
     sleep(2);
-    printf("| idle | %d | %.4f s | | |\n", SITES, seconds(CLOCK_PROCESS_CPUTIME_ID) - cpu);
+    printf("| idle | %d | | | | %.4f s | | |\n", SITES, seconds(CLOCK_PROCESS_CPUTIME_ID) - cpu);
     close_cluster();
 }
 
@@ -294,7 +305,7 @@ static void memory(void) {
     size_t opened = mallinfo2().uordblks;
     update_ordup(&job);
     ordup_cluster_finish(cluster, ORDUP_FOREVER);
-    printf("| memory | %d | %zu B, and %.1f B for each update | | |\n", SITES, opened - before,
+    printf("| memory | %d | %zu B, and %.1f B for each update | | | | | |\n", SITES, opened - before,
            (double)(mallinfo2().uordblks - opened) / (double)job.count);
     close_cluster();
 }
@@ -304,7 +315,7 @@ int main(int count, char **words) {
         pthread_mutex_init(&plain[at].lock, NULL);
         pthread_cond_init(&plain[at].sent, NULL);
     }
-    printf("| kind | threads | ordup | plain | ratio |\n|---|--:|--:|--:|--:|\n");
+    printf("| kind | threads | ordup | plain | ratio | ordup, processors | plain | ratio |\n|---|--:|--:|--:|--:|--:|--:|--:|\n");
     for (int i = 1; i <= 4; i *= 4) {
         const char *const kinds[] = {"reads-own", "reads-one", "reads-beside", "update", "round-0", "round-10"};
         for (int kind = 0; kind < 6; kind++) {

@@ -165,6 +165,7 @@ inline publish() {
 }
 
 inline tell(me) {
+    was_starved = was_starved && (!refused || known > was_acked);
     BEGIN
     if
 #ifndef HOLD_RINGS_NO_APPLIER

@@ -157,6 +157,7 @@ static void misuse(void) {
     IS(ordup_cluster_query_end(&query, &ended), ORDUP_DONE);
     MUST(ended.place == 5 && ended.sum == 40 && ended.total == 0 && ended.reads == 1);
     IS(ordup_cluster_query_end(&query, &ended), ORDUP_CLOSED);
+    IS(ordup_cluster_query_read(&query, TEA, &charged), ORDUP_CLOSED);
     ordup_cluster_free(other);
 }
 
@@ -321,13 +322,87 @@ static void rest(void) {
     uint64_t number;
     IS(ordup_cluster_start(cluster), ORDUP_DONE);
     IS(ordup_cluster_propose(cluster, &session, &change, 1, ORDUP_FOREVER, &number), ORDUP_DONE);
-    IS(ordup_cluster_finish(cluster, ORDUP_FOREVER), ORDUP_DONE);
+    /* What nobody waits for is finished: more updates than the feed of the second site has room for. */
+    for (int i = 0; i < 20; i++) {
+        uint32_t status = ordup_cluster_propose(cluster, &session, &change, 1, 0, &number);
+        MUST((status == ORDUP_DONE || status == ORDUP_REFUSED_NOT_YET) && number == (uint64_t)i + 2);
+    }
+    ordup_site_numbers yard = {.applied = 0};
+    ordup_numbers numbers = {.acknowledged = 0};
+    for (int look = 0; look < 1000 && (yard.applied < 21 || numbers.acknowledged < 21); look++) {
+        sleep_ms(5);
+        ordup_cluster_count(cluster, &numbers);
+        IS(ordup_cluster_site_count(cluster, YARD, &yard), ORDUP_DONE);
+    }
+    MUST(numbers.length == 21 && numbers.acknowledged == 21 && yard.applied == 21);
+    IS(ordup_cluster_settle(cluster, &session, 21, 0), ORDUP_DONE);
     sleep_ms(30);
     double cpu = seconds(CLOCK_PROCESS_CPUTIME_ID);
     sleep_ms(500);
     MUST(seconds(CLOCK_PROCESS_CPUTIME_ID) - cpu < 0.005);
+    sigset_t one, was;
+    sigemptyset(&one);
+    sigaddset(&one, SIGUSR2);
+    signal(SIGUSR2, count_signal);
+    signals = 0;
+    pthread_sigmask(SIG_BLOCK, &one, &was);
+    kill(getpid(), SIGUSR2);
+    sleep_ms(20);
+    MUST(signals == 0);
+    pthread_sigmask(SIG_SETMASK, &was, NULL);
+    MUST(signals == 1);
     /* It is stopped and joined as it is freed. */
     ordup_cluster_free(cluster);
+}
+
+/* `stop` comes at any time: each call then ends, and the sites hold what they applied. */
+static void *call_until_stopped(void *given) {
+    ordup_cluster *cluster = given;
+    ordup_session session = ORDUP_SESSION;
+    ordup_change change = {TEA, ORDUP_ADD, 1};
+    for (uint32_t status = ORDUP_DONE, i = 0; status != ORDUP_REFUSED_STOPPED; i++) {
+        uint64_t number = 0, seen = session.seen;
+        ordup_seen out;
+        status = ordup_cluster_propose(cluster, &session, &change, 1, i % 3 ? ORDUP_FOREVER : 0, &number);
+        if (status == ORDUP_REFUSED_NOT_YET && session.seen == seen)
+            status = ordup_cluster_settle(cluster, &session, number, ORDUP_FOREVER);
+        if (status == ORDUP_DONE && session.seen < number)
+            return "an update is not seen";
+        if (status != ORDUP_DONE && status != ORDUP_REFUSED_NOT_YET && status != ORDUP_REFUSED_STOPPED)
+            return "a proposal";
+        uint32_t read = ordup_cluster_read_when_level(cluster, &session, i % 2, TEA, ORDUP_FOREVER, &out);
+        if (read != ORDUP_DONE && read != ORDUP_REFUSED_BEHIND)
+            return "a read";
+    }
+    return NULL;
+}
+
+static void storms(void) {
+    enum { CALLERS = 4, STORMS = 60 };
+    pthread_t threads[CALLERS];
+    for (int storm = 0; storm < STORMS; storm++) {
+        ordup_cluster *cluster = opened(0);
+        IS(ordup_cluster_start(cluster), ORDUP_DONE);
+        for (int i = 0; i < CALLERS; i++)
+            pthread_create(&threads[i], NULL, call_until_stopped, cluster);
+        nanosleep(&(struct timespec){.tv_nsec = storm * 37 % 41 * 50000}, NULL);
+        ordup_cluster_stop(cluster);
+        for (int i = 0; i < CALLERS; i++) {
+            void *said;
+            pthread_join(threads[i], &said);
+            MUST(!said);
+        }
+        IS(ordup_cluster_close(cluster), ORDUP_DONE);
+        ordup_numbers numbers;
+        ordup_cluster_count(cluster, &numbers);
+        for (uint32_t at = 0; at < 2; at++) {
+            ordup_site_numbers site;
+            IS(ordup_cluster_site_count(cluster, at, &site), ORDUP_DONE);
+            /* The close sends what the last reports allow, and nobody applies it. */
+            MUST(site.reported == site.applied && site.applied <= site.sent && site.sent <= numbers.length);
+        }
+        ordup_cluster_free(cluster);
+    }
 }
 
 /* Conditions, groups, and the numbers of sites. */
@@ -378,6 +453,7 @@ int main(void) {
     times();
     waits();
     rest();
+    storms();
     conditions();
     printf("%d things tried\n", tried);
     return wrong;

@@ -96,6 +96,13 @@ int __wrap_pthread_join(pthread_t it, void **ended) {
     return __real_pthread_join(it, ended);
 }
 
+/* Each site is compared at the close. One is told to be mixed, which no call can bring about. */
+static long compared, mixed_at;
+uint32_t __real_ordup_book_compare(ordup_handle *, ordup_handle *);
+uint32_t __wrap_ordup_book_compare(ordup_handle *book, ordup_handle *site) {
+    return ++compared == mixed_at ? ORDUP_REFUSED_MIXED : __real_ordup_book_compare(book, site);
+}
+
 static void fail(int line, const char *what) {
     printf("line %d: refused %ld%s: not so: %s\n", line, tried_at, all_later ? " and all later ones" : "", what);
     exit(1);
@@ -209,10 +216,14 @@ static void calls(struct result *out) {
     MUST(blocks == 0 && locks == 0 && threads == 0);
 }
 
+static void sleep_ms(long ms) {
+    nanosleep(&(struct timespec){.tv_nsec = ms * 1000000}, NULL);
+}
+
 /* Once a turn was refused memory, the keeper tries again and again, and no caller waits for ever. */
 static void keeper(void) {
     ordup_setup setup = ORDUP_SETUP;
-    ordup_cluster *cluster = NULL;
+    ordup_cluster *cluster = NULL, *successor = NULL;
     ordup_session session = ORDUP_SESSION;
     ordup_change change = {0, ORDUP_ADD, 1};
     uint64_t number = 0, given_up = 0;
@@ -236,8 +247,38 @@ static void keeper(void) {
         refused_at = 0;
         MUST(status == ORDUP_DONE || (status == ORDUP_REFUSED_NO_MEMORY && refused));
     }
+    /* So it does where it is refused more than once. */
+    uint32_t status = ORDUP_DONE;
+    for (int at = 0; at < 10000 && status != ORDUP_REFUSED_NOT_YET; at++) {
+        all_later = 1;
+        asked = 0;
+        refused_at = 1 + at % 7;
+        status = ordup_cluster_propose(cluster, &session, &change, 1, ORDUP_FOREVER, &number);
+        MUST(status == ORDUP_DONE || status == ORDUP_REFUSED_NOT_YET || status == ORDUP_REFUSED_NO_MEMORY);
+        if (status != ORDUP_REFUSED_NOT_YET)
+            refused_at = 0;
+    }
+    MUST(status == ORDUP_REFUSED_NOT_YET);
+    /* It rests between two attempts. */
+    struct timespec at, from;
+    clock_gettime(CLOCK_PROCESS_CPUTIME_ID, &from);
+    sleep_ms(200);
+    clock_gettime(CLOCK_PROCESS_CPUTIME_ID, &at);
+    MUST((at.tv_sec - from.tv_sec) * 1000 + (at.tv_nsec - from.tv_nsec) / 1000000 < 20);
+    MUST(ordup_cluster_settle(cluster, &session, number, 0) == ORDUP_REFUSED_NOT_YET);
+    refused_at = 0;
+    ordup_numbers numbers = {.acknowledged = 0};
+    for (int look = 0; look < 1000 && numbers.acknowledged < number; look++) {
+        sleep_ms(5);
+        ordup_cluster_count(cluster, &numbers);
+    }
+    MUST(ordup_cluster_settle(cluster, &session, number, 0) == ORDUP_DONE);
+    MUST(ordup_cluster_settle(cluster, &session, number, ORDUP_FOREVER) == ORDUP_DONE);
     MUST(ordup_cluster_finish(cluster, ORDUP_FOREVER) == ORDUP_DONE);
-    MUST(ordup_cluster_close(cluster) == ORDUP_DONE);
+    compared = 0;
+    mixed_at = 1;
+    MUST(ordup_cluster_close(cluster) == ORDUP_REFUSED_MIXED && ordup_cluster_successor(cluster, &successor) == ORDUP_OPEN);
+    MUST(ordup_cluster_close(cluster) == ORDUP_DONE && compared == 2 && !successor);
     ordup_cluster_free(cluster);
     MUST(blocks == 0 && locks == 0 && threads == 0);
     printf("%lu proposals of 200 were numbered and then refused memory; ", (unsigned long)given_up);

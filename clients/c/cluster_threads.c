@@ -1,6 +1,7 @@
 /* The threads of a cluster in C: callers that propose, some with conditions, settle, and read what they wrote, readers whose values are
- * compared with the log afterwards, queries, a changer of limits, and one who looks at the numbers. Then the cluster is closed, and its successor goes on, so
- * many times as there are epochs. It prints what was done, and ends with status 0 where all that ordup_cluster.h promises was seen.
+ * compared with the log afterwards, queries, a changer of limits, and one who looks at the numbers. Then the cluster is closed, and its
+ * successor goes on, so many times as there are epochs. It prints what was done, and ends with status 0 where all that ordup_cluster.h
+ * promises was seen.
  *
  *     cluster_threads EPOCHS SETS [FOLDER]
  *
@@ -15,7 +16,9 @@
 
 #include "ordup_cluster.h"
 
-enum { SITES = 4, CALLERS = 4, READERS = 4, SHARED = CALLERS, STOCK = CALLERS + 2, OBJECTS = CALLERS + 3, FULL = 9, SAMPLES = 1 << 16, FIRST = 1000 };
+enum { SITES = 4, CALLERS = 4, READERS = 4, FULL = 9, SAMPLES = 1 << 16, FIRST = 1000 };
+/* The objects: one for each caller, two that are shared, and the stock. */
+enum { SHARED = CALLERS, STOCK = CALLERS + 2, OBJECTS = CALLERS + 3 };
 
 static ordup_cluster *cluster;
 static _Atomic int wrong, over;

@@ -7,8 +7,8 @@
  * - A hold that sent something rings `sent`, on which appliers sleep.
  * - A hold that acknowledged updates rings the bell in `heads` of each of them and of the one after, the new head. A caller sleeps on
  *   that of its update until it is the head, and then on `told`.
- * - An applier rings the bell of its site after each update, for readers, and `told` once its feed is empty or it has applied some. A
- *   head waits only for sites whose last update it is, so it is told at once.
+ * - An applier rings the bell of its site after each update, for readers, and `told` once its feed is empty or it has applied some more.
+ *   A site that the head waits for is sent no update after it, so most often the head is the last of its feed.
  * - What an applier told is news until a hold has looked at it, which `looked` says. A caller whose update is the head makes a hold for
  *   them. Where work is left, and there are news, and no such caller, the keeper is rung: by who told, by who ended the hold that did not
  *   see them, or by the caller who leaves. */
@@ -192,13 +192,14 @@ static void ring_heads(ordup_cluster *it, uint64_t after, uint64_t acked) {
         ring(&it->heads[number % HEADS]);
 }
 
-/* What a hold of the book changed is told to those who sleep. After one that was refused memory a hold may change what no site told. */
+/* What a hold of the book changed is told to those who sleep. After one that was refused memory a hold may change what no site told, and
+ * rings as if one had. It does not where it was refused again and changed nothing, or the keeper would not rest. */
 static void tell(ordup_cluster *it, const ordup_told *was, const ordup_told *is) {
     if (is->sent != was->sent)
         ring(&it->sent);
     if (is->acked != was->acked)
         ring_heads(it, was->acked, is->acked);
-    if (was->is_starved)
+    if (was->is_starved && (!is->is_starved || is->acked != was->acked))
         ring(&it->told);
     hand_on(it);
 }

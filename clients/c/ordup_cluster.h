@@ -145,8 +145,8 @@ void ordup_cluster_keeper(ordup_cluster *cluster);
  * this file. REFUSED_NO_MEMORY: it was not compared; ask again. */
 uint32_t ordup_cluster_close(ordup_cluster *cluster);
 
-/* Opens the cluster that goes on from one that is closed: with the same declarations, each object at its last value, and numbers that go on.
- * Both are freed, each by itself.
+/* Opens the cluster that goes on from one that is closed: with the same declarations, each object at its last value, and numbers that go
+ * on. Both are freed, each by itself.
  *
  * OPEN: it is not closed. REFUSED_NOT_YET: an update is not acknowledged. REFUSED_LOG_FULL: as for `open`. REFUSED_NO_MEMORY. */
 uint32_t ordup_cluster_successor(ordup_cluster *cluster, ordup_cluster **successor);
@@ -159,10 +159,10 @@ void ordup_cluster_free(ordup_cluster *cluster);
 
 /* Numbers a message set as the next update, and waits until it is acknowledged. The session has then seen it.
  *
- * REFUSED_NOT_YET: it is numbered and `*number` is written, but it is not acknowledged: the time is over, the cluster was stopped, or memory
- * was refused after it was numbered. It stands, and `settle` waits for it. With each other answer nothing was numbered: REFUSED_STOPPED,
- * REFUSED_UNKNOWN_OBJECT, REFUSED_OUT_OF_RANGE, REFUSED_TOO_MANY, REFUSED_EMPTY, REFUSED_REPEATED, REFUSED_LOG_FULL, REFUSED_NO_MEMORY, or
- * ORDUP_REFUSED + 1 for an operation that there is not. */
+ * REFUSED_NOT_YET: it is numbered and `*number` is written, but it is not acknowledged: the time is over, the cluster was stopped, or
+ * memory was refused after it was numbered. It stands, and `settle` waits for it. With each other answer nothing was numbered:
+ * REFUSED_STOPPED, REFUSED_UNKNOWN_OBJECT, REFUSED_OUT_OF_RANGE, REFUSED_TOO_MANY, REFUSED_EMPTY, REFUSED_REPEATED, REFUSED_LOG_FULL,
+ * REFUSED_NO_MEMORY, or ORDUP_REFUSED + 1 for an operation that there is not. */
 uint32_t ordup_cluster_propose(ordup_cluster *cluster, ordup_session *session, const ordup_change *changes, size_t count,
                                uint64_t timeout_ms, uint64_t *number);
 
@@ -223,8 +223,8 @@ uint32_t ordup_cluster_query_end(ordup_query *query, ordup_ended *out);
 /* Changes the limit of a site on a scope, or begins one. `*place` is the number of the first update that it is for.
  *
  * The scope is ORDUP_SCOPE_OBJECT or ORDUP_SCOPE_GROUP with its id, ORDUP_SCOPE_ALL or ORDUP_SCOPE_COUNT. Refusals: REFUSED_UNKNOWN_OBJECT,
- * REFUSED_UNKNOWN_GROUP, REFUSED_UNKNOWN_SITE, REFUSED_OUT_OF_RANGE, REFUSED_TOO_MANY, REFUSED_HEAD_PENDING while an update waits for sites,
- * REFUSED_LAG_OVER where the site lags by more now, REFUSED_NO_MEMORY. */
+ * REFUSED_UNKNOWN_GROUP, REFUSED_UNKNOWN_SITE, REFUSED_OUT_OF_RANGE, REFUSED_TOO_MANY, REFUSED_HEAD_PENDING while an update waits for
+ * sites, REFUSED_LAG_OVER where the site lags by more now, REFUSED_NO_MEMORY. */
 uint32_t ordup_cluster_relimit(ordup_cluster *cluster, uint32_t site, uint32_t kind, uint32_t id, uint64_t amount, uint64_t *place);
 
 /* The numbers of a cluster. It takes no lock. */

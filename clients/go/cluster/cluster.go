@@ -158,7 +158,7 @@ func (c *Cluster) ringHeads(after, acked uint64) {
 }
 
 // tell tells those who sleep what a hold changed: appliers, then callers, then the keeper. After a hold that was refused memory one may change
-// what no site told, so told rings.
+// what no site told, so told rings; but not where it was refused again and changed nothing, or the keeper would not rest.
 func (c *Cluster) tell(was, is *told) {
 	if is.sent != was.sent {
 		c.sent.ring()
@@ -166,7 +166,7 @@ func (c *Cluster) tell(was, is *told) {
 	if is.acked != was.acked {
 		c.ringHeads(was.acked, is.acked)
 	}
-	if was.isStarved {
+	if was.isStarved && (!is.isStarved || is.acked != was.acked) {
 		c.told.ring()
 	}
 	c.handOn()

@@ -7,6 +7,10 @@
    lost wake-up is a thread that never ends, an invalid end state. With GIVES_UP the time of a caller may be over whenever it sleeps.
    With COARSE, what a hold publishes is one step, and what it rings, and the looks before the keeper is rung.
 
+   It is also the model of clients/go/cluster, whose functions have the same steps by the same names; go_bell.pml has its bells. There a
+   caller may submit, and then waits for nothing, with SUBMITS; its context may also end while it is awake, with ENDS_AWAKE; and with
+   CLOSES the cluster is closed after `stop`, while callers may still be there: what is numbered is then acknowledged and applied.
+
    CALLERS callers propose SETS sets each. KEEPERS is 1 or 0. With FINISHES callers wait at the end until no work is left. With READS
    they read then, each at a site of its choice. With AMID `stop` comes at any time. */
 
@@ -57,6 +61,9 @@ byte callers_done, appliers_done, keepers_done;
 #define APPLIER (1 << site)
 #define CALLER (4 << it)
 #define KEEPER 32
+#define CLOSER 64
+
+bool closing;          /* under the lock of the book: nothing is numbered any more */
 
 inline listen(bell, me) { bell.moved = bell.moved & ~me }
 
@@ -201,11 +208,14 @@ inline turn(me) {
 
 /* The hold of a proposal. */
 inline number_one() {
-    atomic { !book && (numbered >= it || stopped) -> numbered++; number = numbered; begin_hold(); news = false };
+    if
+    :: atomic { !book && !closing && (numbered >= it || stopped) -> numbered++; number = numbered; begin_hold(); news = false };
                                                  /* number: lock.lock told.listen */
-    make_turn();                                 /* number: ordup_book_propose */
-    publish();                                   /* number: publish lock.unlock */
-    tell(CALLER)                                 /* number: tell */
+        make_turn();                             /* number: ordup_book_propose */
+        publish();                               /* number: publish lock.unlock */
+        tell(CALLER)                             /* number: tell */
+    :: atomic { !book && closing -> number = 0 }
+    fi
 }
 
 /* ---- threads ---- */
@@ -264,6 +274,9 @@ inline until(number) {
     in_time = true;
     do
     ::
+#ifdef ENDS_AWAKE
+        if :: true :: in_time = false fi;
+#endif
         atomic {
 #ifndef CALLER_LOOKS_FOR_THE_HEAD_BEFORE_IT_LISTENS
             listen(heads[number], CALLER);       /* until: is_reached head.listen */
@@ -368,7 +381,13 @@ proctype caller(byte it) {
             ring(work);                          /* ordup_cluster_propose_if: work.ring */
 #endif
             refused = false
-        :: else -> until(number)                 /* ordup_cluster_propose_if: until */
+#ifdef CLOSES
+        :: !refused && number == 0 -> break
+#endif
+#ifdef SUBMITS
+        :: !refused && number > 0
+#endif
+        :: !refused && number > 0 -> until(number)           /* ordup_cluster_propose_if: until */
         fi;
         sets++
     :: sets == SETS -> break
@@ -456,8 +475,49 @@ inline stop_all() {
     }
 }
 
+/* Once the other threads of the cluster have ended, it applies, tells and makes turns, until none of these does anything. */
+inline close_all() {
+    do
+    ::
+        atomic {
+            do
+            :: it < SITES -> applied = applied || taken[it] < pushed[it]; taken[it] = pushed[it]; ring(moved[it]); it++
+            :: else -> it = 0; break             /* Cluster::finishAlone: apply_all */
+            od
+        };
+#ifndef GO_CLOSE_TELLS_NOTHING
+        ring_told();                             /* Cluster::finishAlone: told.ring */
+#endif
+#ifndef GO_CLOSE_MAKES_NO_TURN
+        atomic { !book -> begin_hold() };        /* Cluster::finishAlone: turn */
+        if
+        :: atomic { news -> news = false }; make_turn()
+        :: atomic { !news -> known = acked }
+        fi;
+        was_sent = sent_by_now;
+        sent_by_now = acked + pushed[0] + pushed[SITES - 1];
+        publish();
+        tell(CLOSER);
+#endif
+#ifndef GO_CLOSE_ENDS_AFTER_ONE_PASS
+        if
+        :: atomic { refused -> refused = false; applied = false }    /* it is closed again */
+        :: atomic { !refused && (applied || was_sent != sent_by_now) -> applied = false }
+        :: !refused && !applied && was_sent == sent_by_now ->
+#endif
+            break
+#ifndef GO_CLOSE_ENDS_AFTER_ONE_PASS
+        fi
+#endif
+    od
+}
+
 init {
     byte it;
+#ifdef CLOSES
+    byte site, known, was_acked, was_sent, sent_by_now;
+    bool refused, sent_more, was_starved, news, applied;
+#endif
 
     atomic {
         do :: it < SITES -> run applier(it); it++ :: else -> break od;
@@ -484,8 +544,19 @@ init {
     assert(acked == numbered);
 #endif
 #endif
-    stop_all();
+    stop_all();                                  /* Cluster::Close: stop */
+#ifdef CLOSES
+    appliers_done == SITES && keepers_done == KEEPERS;       /* Cluster::Close: goroutines.wait gate.lock gate.unlock */
+#ifndef GO_CLOSE_NUMBERS_ON
+    atomic { !book -> closing = true };          /* Cluster::Close: lock.lock lock.unlock */
+#endif
+    close_all();                                 /* Cluster::Close: finish_alone compare */
+    assert(acked == numbered && ALL_APPLIED);
+#endif
     callers_done == CALLERS && appliers_done == SITES && keepers_done == KEEPERS;
+#ifdef CLOSES
+    assert(acked == numbered && ALL_APPLIED);
+#endif
 #ifdef PROBE_ALL_END
     assert(false)
 #endif

@@ -1,0 +1,8 @@
+//go:build pkgconfig
+
+package cluster
+
+/*
+#cgo pkg-config: ordup
+*/
+import "C"

@@ -1,0 +1,5 @@
+//go:build !stand_in
+
+package main
+
+const isStandIn = false

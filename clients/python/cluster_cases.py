@@ -11,9 +11,8 @@ from cases import TestCase
 from ordup import Cluster, Site, Yes, check, check_series
 
 HERE = Path(__file__).resolve().parent
-IS_STAND_IN, IS_LONG = "--stand-in" in sys.argv, "--long" in sys.argv
+IS_LONG = "--long" in sys.argv
 SOON = 5.0
-real_only = unittest.skipIf(IS_STAND_IN, "groups, conditions that can be met, the numbers of sites and their lags, which the stand-in lacks")
 
 
 class ClusterCase(TestCase):
@@ -42,8 +41,6 @@ class ClusterCase(TestCase):
     def audited(self, *series):
         """The records of a site, in order, are valid."""
         program = TestCase.program or None
-        if not program and IS_STAND_IN:
-            return
         for record in series:
             self.assertIsInstance(check(record, program), Yes)
         self.assertIsInstance(check_series(b"".join(series), program), Yes)

@@ -1,9 +1,9 @@
 #!/usr/bin/env python3
-"""Tests the clusters of the module on the library: clients/python/test_cluster.py [PROGRAM] [--stand-in] [--long] [TEST..]
+"""Tests the clusters of the module on the library: clients/python/test_cluster.py [PROGRAM] [--long] [TEST..]
 
 Threads that propose, read and query, with the values that they must see; each exception; Ctrl-C, signals, forks and ends amid a call;
-memory, a cluster at rest, and the examples. PROGRAM is `ordup`, which then audits the records. With --stand-in the library is not the
-proved one, and what it lacks is not tried. With --long the threads make a million updates, where they make 1,200 else.
+memory, a cluster at rest, and the examples. PROGRAM is `ordup`, which then audits the records. With --long the threads make a
+million updates, where they make 1,200 else.
 """
 
 import contextlib
@@ -26,7 +26,7 @@ if __name__ == "__main__":
 
 import ordup
 from cases import TestCase
-from cluster_cases import IS_LONG, IS_STAND_IN, SOON, ClusterCase, real_only
+from cluster_cases import IS_LONG, SOON, ClusterCase
 from ordup import (
     Behind, Cluster, Condition, Error, InUse, Lag, NotYet, Refused, Session, Site, Stopped, Unmet, add, at_least, at_most, max_, min_, mul,
     set_, take,
@@ -48,10 +48,10 @@ class Threads(ClusterCase):
         def work(cluster, caller, session, chance):
             mine = f"x{caller}"
             for _ in range(updates):
-                if not IS_STAND_IN and chance.random() < 0.1:
+                if chance.random() < 0.1:
                     unmet = self.raised(Unmet, cluster.propose, session, {mine: add(1)}, conditions=[at_most(mine, written[caller])])
                     self.assertEqual(unmet.index, 0)
-                kept = [] if IS_STAND_IN else [at_least("n", 1), at_most(mine, written[caller] + 1)]
+                kept = [at_least("n", 1), at_most(mine, written[caller] + 1)]
                 number = cluster.propose(session, {"n": add(1), mine: add(1)}, conditions=kept)
                 self.assertGreaterEqual(session.seen, number)
                 site, seen = chance.choice(list(sites)), session.seen
@@ -203,7 +203,6 @@ class Calls(ClusterCase):
             self.assertEqual(str(unmet), f"tea would not be at least {2**62 + 1}")
             self.assertEqual((session.numbered, cluster.numbers().length), (0, 0))
 
-    @real_only
     def test_conditions(self):
         with Cluster(objects={"tea": 40, "rye": 0}, sites={"shop": Site(64, {"count": 0}), "yard": 64}) as cluster:
             session, sale = Session(), {"tea": add(-30), "rye": add(1)}
@@ -226,7 +225,6 @@ class Calls(ClusterCase):
                 sold = [it.result() for it in [pool.submit(sell) for _ in range(20)]]
             self.assertEqual(sum(number is not None for number in sold), 10)
 
-    @real_only
     def test_groups_lags_and_the_numbers_of_a_site(self):
         sites = {"shop": Site(64, {"count": 0}), "yard": Site(64, {("group", "all"): 100, "all": 200, ("object", "rye"): 5})}
         with Cluster(objects={"tea": 40, "rye": 0}, groups={"all": ["tea", "rye"]}, sites=sites, before=7) as cluster:
@@ -509,7 +507,7 @@ class Examples(doctest.DocTestFinder):
 
 
 if __name__ == "__main__":
-    sys.argv = [word for word in sys.argv if word not in ("--stand-in", "--long")]
+    sys.argv = [word for word in sys.argv if word != "--long"]
     if len(sys.argv) > 1 and Path(sys.argv[1]).is_file():
         TestCase.program = str(Path(sys.argv.pop(1)).resolve())
     else:

@@ -17,12 +17,11 @@ from concurrent.futures import ThreadPoolExecutor
 from pathlib import Path
 from unittest import mock
 
-from cluster_cases import HERE, IS_STAND_IN, SOON, ClusterCase, real_only
+from cluster_cases import HERE, SOON, ClusterCase
 from ordup import InUse, Session, add
 
 
 class Page(ClusterCase):
-    @real_only
     def test_the_example_of_the_page(self):
         page = (HERE / "README.md").read_text(encoding="utf-8")
         given = {}
@@ -140,16 +139,14 @@ class Service(ClusterCase):
                 self.assertEqual(len(rows), len(set(rows)))
                 self.assertIn(f"ordup_log_updates {sold + 1}", rows)
                 self.assertIn(f"ordup_acknowledged_updates {sold + 1}", rows)
-                if not IS_STAND_IN:
-                    self.assertIn(f'ordup_site_sent_updates{{site="south"}} {sold + 1}', rows)
-                    self.assertIn('ordup_site_limit{site="north",scope="count"} 20', rows)
-                    self.assertIn("# TYPE ordup_site_rounds_total counter", text)
+                self.assertIn(f'ordup_site_sent_updates{{site="south"}} {sold + 1}', rows)
+                self.assertIn('ordup_site_limit{site="north",scope="count"} 20', rows)
+                self.assertIn("# TYPE ordup_site_rounds_total counter", text)
             for site in ("north", "south"):
                 record = Path(folder, f"{site}.record").read_bytes()
                 self.assertGreater(record.count(b"change,"), sold)
                 self.audited(record)
 
-    @real_only
     def test_no_bag_is_sold_twice(self):
         with tempfile.TemporaryDirectory() as folder, self.served(folder), ThreadPoolExecutor(8) as pool:
             statuses = [it.result()[0] for it in [pool.submit(self.ask, "POST", "/sales/tea/3") for _ in range(50)]]

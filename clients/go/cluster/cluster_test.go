@@ -55,25 +55,6 @@ func fails(t *testing.T, wanted, err error) {
 	}
 }
 
-// notTried skips a test that needs what the stand-in lacks.
-func notTried(t *testing.T, what string) {
-	if isStandIn {
-		t.Skipf("not tried: %s, which the stand-in lacks", what)
-	}
-}
-
-// charges is what a query read, and tried what of it is tried: of the stand-in not the reference, nor how many reads there were.
-func charges(value int64, imports, total, place, reads uint64) Charged {
-	return tried(Charged{value, imports, total, place, reads})
-}
-
-func tried(charged Charged) Charged {
-	if isStandIn {
-		charged.Place, charged.Reads = 0, 0
-	}
-	return charged
-}
-
 var always = context.Background()
 
 // soon is a context that ends after a while.
@@ -237,7 +218,7 @@ func TestMisuse(t *testing.T) {
 	_, err = q.Read(9)
 	fails(t, ErrUnknownObject, err)
 	charged, err := q.Read(tea)
-	isGiven(t, charges(40, 0, 0, 5, 1), tried(charged), err)
+	isGiven(t, Charged{40, 0, 0, 5, 1}, charged, err)
 }
 
 func TestAnUpdateHasAtMost64Changes(t *testing.T) {
@@ -277,7 +258,7 @@ func TestAQueryImportsNoMoreThanItsLimit(t *testing.T) {
 		charged, status := q.query.read(&c.sites[yard].site, tea)
 		fails(t, it.wanted, status.fault())
 		if it.wanted == nil {
-			isGiven(t, charges(40, 7, 7, 2, 1), tried(charged), nil)
+			isGiven(t, Charged{40, 7, 7, 2, 1}, charged, nil)
 		}
 		ended, err := q.End()
 		isGiven(t, it.ended, ended, err)
@@ -302,7 +283,6 @@ func TestConditionsAreTestedWhereTheUpdateIsNumbered(t *testing.T) {
 	if !errors.As(err, &unmet) || unmet.Index != 0 || number != 0 || session.Seen != 0 {
 		t.Errorf("%d, %v", number, err)
 	}
-	notTried(t, "conditions")
 	sale := []Change{Add(tea, -30), Add(rye, 1)}
 	kept := []Condition{AtMost(rye, 1), AtLeast(tea, 0)}
 	_, err = c.ProposeIf(always, &session, []Condition{AtLeast(9, 0)}, sale...)
@@ -319,7 +299,6 @@ func TestConditionsAreTestedWhereTheUpdateIsNumbered(t *testing.T) {
 }
 
 func TestGroupsAndTheNumbersOfSites(t *testing.T) {
-	notTried(t, "groups, the numbers of sites and their lags")
 	setup := declared()
 	setup.Before = 7
 	both := setup.Group("both", tea, rye)

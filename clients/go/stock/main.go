@@ -19,7 +19,7 @@ import (
 	"strconv"
 	"time"
 
-	"ordup/cluster"
+	"ordup.dev/ordup/cluster"
 )
 
 type service struct {

@@ -1,5 +1,0 @@
-//go:build !stand_in
-
-package main
-
-const isStandIn = false

@@ -44,6 +44,7 @@ impl Feed {
 
 impl Feeds for Feed {
     type Sender = SendEnd;
+
     type Taker = TakeEnd;
 
     fn ends(

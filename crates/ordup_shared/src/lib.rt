@@ -21,4 +21,3 @@ mod setup;
 mod site;
 mod status;
 mod thing;
-

@@ -1,6 +1,7 @@
 """What the tests of clusters share."""
 
 import contextlib
+import os
 import sys
 import time
 import unittest
@@ -37,6 +38,13 @@ class ClusterCase(TestCase):
         pool = ThreadPoolExecutor(1)
         self.addCleanup(pool.shutdown)
         return pool.submit(work, *words, **options)
+
+    def tasks(self):
+        """How many threads the process has, once none is about to end."""
+        count = 0
+        while count != (count := len(os.listdir("/proc/self/task"))):
+            time.sleep(0.05)
+        return count
 
     def audited(self, *series):
         """The records of a site, in order, are valid."""

@@ -336,12 +336,12 @@ class Misuse(ClusterCase):
         self.assertRaises(Stopped, cluster.propose, Session(), {"n": add(1)})
 
     def test_a_cluster_is_started_once(self):
-        cluster, tasks = self.forced(), len(os.listdir("/proc/self/task"))
+        cluster, tasks = self.forced(), self.tasks()
         for _ in range(3):
             cluster.start()
-        self.assertEqual(len(os.listdir("/proc/self/task")), tasks + 3)
+        self.assertEqual(self.tasks(), tasks + 3)
         cluster.close()
-        self.assertEqual(len(os.listdir("/proc/self/task")), tasks)
+        self.assertEqual(self.tasks(), tasks)
 
     def test_a_session_in_two_calls(self):
         cluster, session = self.forced(), Session()

@@ -194,7 +194,7 @@ print("at the end", flush=True)
         self.assertEqual(process.returncode, 0)
 
     def test_a_forgotten_cluster_ends(self):
-        tasks = len(os.listdir("/proc/self/task"))
+        tasks = self.tasks()
         cluster = self.forced()
         cluster.start()
         cluster.propose(Session(), {"n": add(1)})
@@ -202,7 +202,7 @@ print("at the end", flush=True)
         del cluster
         gc.collect()
         self.assertFalse(forgotten.alive)
-        self.assertEqual(len(os.listdir("/proc/self/task")), tasks)
+        self.assertEqual(self.tasks(), tasks)
 
     def test_ten_thousand_clusters_leave_no_memory(self):
         def resident():

@@ -12,7 +12,7 @@ from ordup import Cluster, _cluster, _cluster_answers, _cluster_library
 class Header(unittest.TestCase):
     """What the module has of the headers and of FORMATS is what they have."""
 
-    TEXT = "".join((TOP / f"clients/c/ordup_{name}.h").read_text(encoding="utf-8") for name in ("holds", "cluster"))
+    TEXT = "".join((TOP / f"clients/c/{name}.h").read_text(encoding="utf-8") for name in ("ordup", "ordup_holds", "ordup_cluster"))
 
     def test_the_numbers(self):
         # One that no number follows in its enumeration is one more than that before it.

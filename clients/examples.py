@@ -1,4 +1,4 @@
-"""The examples of docs/EMBEDDING.md, and what stands beside them, for the checks that build them."""
+"""The examples of README.md and docs/EMBEDDING.md, and what stands beside them, for the checks that build them."""
 
 import re
 from pathlib import Path
@@ -20,6 +20,12 @@ def example(language):
     return only(rf"^```{language}\n(.*?)^```\n.*?^```text\n(.*?)^```\n", f"an example in {language}")
 
 
+def of_threads(language):
+    """The example of a language in README, and what it prints."""
+    page = (TOP / "README.md").read_text(encoding="utf-8")
+    return re.search(rf"^```{language}\n(.*?)^```\n", page, re.M | re.S)[1], re.search(r"with (\d+) printed by each", page)[1] + "\n"
+
+
 def command(language):
     """The command by which the page runs the example of a language, which stands between it and what it prints."""
     return only(rf"^```{language}\n.*?^```\n(?:(?!^```text).)*?^```proof\n(.*?)\n```\n", f"a command for {language}")
@@ -30,7 +36,7 @@ def quoted(begin):
     return only(rf"`({re.escape(begin)}[^`\n]*)`", begin)
 
 
-def lay(language, folder, clients):
+def lay(language, folder, clients, example=example):
     """Lays the example into a folder, as a crate of Rust or a module of Go, with the way from there to clients/. Answers what it prints."""
     source, printed = example(language)
     needs, required, replaced = quoted("ordup = {"), quoted("require ordup"), quoted("replace ordup")

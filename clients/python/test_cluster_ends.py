@@ -87,8 +87,11 @@ except KeyboardInterrupt:
     def test_a_stop_ends_each_wait(self):
         cluster = self.forced()
         ahead = Session(9)
-        waits = [self.in_thread(cluster.propose, Session(), {"n": add(1)}), self.in_thread(cluster.finish),
-                 self.in_thread(cluster.read_when_level, ahead, "south", "n"), self.in_thread(cluster.read_many_when_level, Session(9), "north", ["n"])]
+        waits = [self.in_thread(cluster.propose, Session(), {"n": add(1)})]
+        while not cluster.numbers().length:
+            time.sleep(0.001)
+        waits += [self.in_thread(cluster.finish), self.in_thread(cluster.read_when_level, ahead, "south", "n"),
+                  self.in_thread(cluster.read_many_when_level, Session(9), "north", ["n"])]
         time.sleep(0.1)
         threading.Timer(0.1, cluster.stop).start()
         with self.soon():

@@ -9,15 +9,15 @@ use std::sync::Wait;
 use std::test::Fail;
 use test_fixtures::{expect_eq, x, y, z};
 
-/// Takes a number from x, with one turn, where an object and y are then at least 0.
-fn sell<R: Wait + Abort>(
+/// Adds a number to x, with one turn, where an object and y are then at least 0.
+fn change<R: Wait + Abort>(
     rt: &R,
     alloc: Global,
     cluster: &Cluster,
     number: i64,
     object: ObjectId,
 ) -> Result<u64, ProposalError> {
-    let set = add(rt, alloc, x(), -number);
+    let set = add(rt, alloc, x(), number);
     let at_least_0 = |object| Condition {
         object,
         bound: Bound::AtLeast(0),
@@ -41,10 +41,10 @@ fn two_clerks_who_see_3_bags_do_not_sell_5(rt: HostRuntime) -> Result<(), Fail> 
         1,
         Ok(1),
     );
-    expect_eq!(&rt; sell(&rt, alloc, &cluster, 2, x()), Ok(2));
-    expect_eq!(&rt; sell(&rt, alloc, &cluster, 3, x()), Err(ProposalError::Unmet(1)));
+    expect_eq!(&rt; change(&rt, alloc, &cluster, -2, x()), Ok(2));
+    expect_eq!(&rt; change(&rt, alloc, &cluster, -3, x()), Err(ProposalError::Unmet(1)));
     expect_eq!(&rt; cluster.numbered(), 2);
-    expect_eq!(&rt; sell(&rt, alloc, &cluster, 1, x()), Ok(3));
+    expect_eq!(&rt; change(&rt, alloc, &cluster, -1, x()), Ok(3));
     drop(cluster);
     Ok(())
 }
@@ -56,9 +56,9 @@ fn a_condition_on_an_unknown_object_is_refused(rt: HostRuntime) -> Result<(), Fa
     let alloc = rt.alloc();
     let cluster = opened(alloc, Scope::Count, 9)?;
     let unknown = Err(ProposalError::Refused(Refusal::UnknownObject));
-    expect_eq!(&rt; sell(&rt, alloc, &cluster, 0, z()), unknown);
+    expect_eq!(&rt; change(&rt, alloc, &cluster, 0, z()), unknown);
     cluster.stop();
-    expect_eq!(&rt; sell(&rt, alloc, &cluster, 0, z()), Err(ProposalError::Refused(Refusal::Stopped)));
+    expect_eq!(&rt; change(&rt, alloc, &cluster, 0, z()), Err(ProposalError::Refused(Refusal::Stopped)));
     expect_eq!(&rt; cluster.numbered(), 0);
     drop(cluster);
     Ok(())

@@ -1,4 +1,6 @@
 //! A feed over a ring, with both ends in one thread.
+ghost use Rattle.std.specs.Prelude.{◌≡◌};
+
 use super::fixtures::parcel;
 use ordup_objects::Refusal;
 use ordup_ring::{RingFeed, RingTakeEnd, compare};
@@ -6,7 +8,9 @@ use std::test::Fail;
 use test_fixtures::{expect, expect_eq, x_y_and_z};
 
 /// Pops a parcel, if there is one, and answers its number.
-fn pop(taker: &mut RingTakeEnd) -> Option<u64> {
+fn pop(taker: &mut RingTakeEnd) -> Option<u64>
+    ensures { taker.new.feed ≡ taker.old.feed }
+{
     match taker.pop() {
         Some(parcel) => Some(parcel.number),
         None => None,

@@ -9,19 +9,20 @@
 
    An entry is what the script comes to with it, as a core has it: that a replay comes to the same is taken as given. A primary takes over
    at any time, which is more than its own lease allows: nothing that holds here stands on that lease. An update is a place of a log, a
-   limit is a count, and what is told by HTTP is lost, late or comes twice. Left out are refusals of a store, how a fleet counts its
-   members, how entries leave the engine, which entries a process does not believe, wishes that differ, and whether anything happens in
-   time.
+   limit is a count, and what is told by HTTP is lost, late or comes twice. Left out are refusals of a store, how entries leave the
+   engine, which entries a process does not believe, wishes that differ, and whether anything happens in time.
 
    SITES sites have PROCESSES processes each, with the limit LIMIT. CLIENTS clients ask for REQUESTS updates each, one after the other, as
    often as they like and of whom they like. Operators wish for the end of the first WISHES epochs, and EVERY requests end one too.
    TAKES is how often a primary tries to take over, DEATHS how often one dies, TERMS how often the key of a site is created, FALLS how
    often a process of a site dies, ROOM what the log has more than it needs, and ENTRIES how many entries there are at most.
 
-   LEAVE: a wish takes out the last site. CARRY: an entry of its own carries clients over. ARCHIVES: entries of ended epochs may be gone
-   as a process looks for them. HANDS: an operator puts a key by hand so often. CREATES_LATE, REVOKES_LATE: what a process asks for its
-   key may come late. OTHER_CHANGES: clients ask for other changes under a number too. HASTY: they ask under the next number before they
-   have an answer. UNLISTED: the processes are of a fleet which does not list them, and whose other members tell for it.
+   LEAVE: the first wish takes out the last site, and RETURNS: the second one declares it again. FLEET: the sites are those of a fleet,
+   and ANEW: its process is started anew without the last one, though that may serve. CARRY: an entry of its own carries clients over.
+   ARCHIVES: entries of ended epochs may be gone as a process looks for them. HANDS: an operator puts a key by hand so often.
+   CREATES_LATE, REVOKES_LATE: what a process asks for its key may come late. OTHER_CHANGES: clients ask for other changes under a number
+   too. HASTY: they ask under the next number before they have an answer. UNLISTED: the processes are of a fleet which does not list them,
+   and whose other members tell for it.
 
    Alike are processes before their first step: so the first one creates the first key, and the first primary takes over first. */
 
@@ -75,6 +76,15 @@
 #define EPOCHS (WISHES + 2)
 #define ALL (SITES * PROCESSES)
 
+/* The names of sites in the script. Those of a fleet have one. */
+#ifdef FLEET
+#define NAMES 1
+#define NAME(site) 0
+#else
+#define NAMES SITES
+#define NAME(site) (site)
+#endif
+
 /* What must never be. Each stays 0: a broken one is named by the assertion that fails. */
 hidden byte UPDATE_IS_LOST, REQUEST_IS_DONE_TWICE, ANSWER_CHANGES, EPOCH_ENDS_TOO_EARLY, TOLD_BEFORE_IT_IS_WRITTEN, TWO_PRIMARIES_WRITE,
             TWO_PROCESSES_RELY, READER_SEES_TOO_LITTLE, GONE_SITE_SERVES, HONEST_PLACE_IS_REFUSED;
@@ -83,7 +93,7 @@ hidden byte UPDATE_IS_LOST, REQUEST_IS_DONE_TWICE, ANSWER_CHANGES, EPOCH_ENDS_TO
 /* What entries come to. The owners are who asked for each update of the epoch. An answer has its epoch and its place. */
 typedef Core {
     byte epoch, updates, acked, asks;
-    byte applied[SITES];
+    byte applied[NAMES];
     byte number[CLIENTS];
     byte answer[CLIENTS];
     byte owner[MOST];
@@ -123,7 +133,7 @@ mtype mode[PRIMARIES] = stands;
 mtype flight[PRIMARIES] = stands;
 byte number_of[PRIMARIES];    /* of the turn on its way, and else of the last entry that was run */
 bool dirty[PRIMARIES];        /* the open turn has a step */
-byte told[PRIMARIES * SITES]; /* what a site told, and the core does not have */
+byte told[PRIMARIES * NAMES]; /* what a site told, and the core does not have */
 byte open_answers[PRIMARIES], flying_answers[PRIMARIES];   /* the clients with an answer that is not written, and with such a request */
 byte open_asks[PRIMARIES], flying_asks[PRIMARIES];
 byte turn_of[PRIMARIES];      /* which of all tries to take over it writes by */
@@ -173,7 +183,7 @@ inline copy(to, by) {
 #ifdef CARRY
     core[to].carries = core[by].carries;
 #endif
-    for (x : 0 .. SITES - 1) { core[to].applied[x] = core[by].applied[x] }
+    for (x : 0 .. NAMES - 1) { core[to].applied[x] = core[by].applied[x] }
     for (x : 0 .. CLIENTS - 1) {
         core[to].number[x] = core[by].number[x]; core[to].answer[x] = core[by].answer[x];
 #ifdef OTHER_CHANGES
@@ -190,7 +200,7 @@ inline drop(at) {
 #ifdef CARRY
     core[at].carries = false;
 #endif
-    for (x : 0 .. SITES - 1) { core[at].applied[x] = 0 }
+    for (x : 0 .. NAMES - 1) { core[at].applied[x] = 0 }
     for (x : 0 .. CLIENTS - 1) {
         core[at].number[x] = 0; core[at].answer[x] = 0;
 #ifdef OTHER_CHANGES
@@ -206,6 +216,21 @@ inline drop(at) {
 #define IS_FOREIGN true
 #else
 #define IS_FOREIGN false
+#endif
+
+/* The process of a fleet, which lists its last site or not, and tells nothing before it looked for keys of others. */
+#ifdef ANEW
+bool began_anew, fleet_looked;
+byte before_anew[EPOCHS + 1];        /* of each epoch the last place that the process before told */
+#define IS_UNLISTED(site) (began_anew && (site) == SITES - 1)
+#ifdef FLEET_TELLS_BEFORE_IT_LOOKED
+#define FLEET_TELLS true
+#else
+#define FLEET_TELLS (!began_anew || fleet_looked)    /* fleet/fleet.go Look: Holds SiteKey */
+#endif
+#else
+#define IS_UNLISTED(site) false
+#define FLEET_TELLS true
 #endif
 
 /* What must hold of an entry that is written. */
@@ -228,8 +253,8 @@ inline judge(at) {
         NEVER(EPOCH_ENDS_TOO_EARLY, core[SCRIPT].epoch == 0 || core[SCRIPT].asks >= EVERY || core[SCRIPT].epoch <= WISHES);
         NEVER(EPOCH_ENDS_TOO_EARLY, core[SCRIPT].acked == core[SCRIPT].updates);
         for (x : 0 .. SITES - 1) {
-            NEVER(EPOCH_ENDS_TOO_EARLY, core[SCRIPT].gone & (1 << x) || !(core[SCRIPT].leaves & (1 << x)));
-            NEVER(EPOCH_ENDS_TOO_EARLY, core[SCRIPT].gone & (1 << x) || IS_FOREIGN ||
+            NEVER(EPOCH_ENDS_TOO_EARLY, core[SCRIPT].gone & (1 << NAME(x)) || !(core[SCRIPT].leaves & (1 << NAME(x))));
+            NEVER(EPOCH_ENDS_TOO_EARLY, core[SCRIPT].gone & (1 << NAME(x)) || IS_FOREIGN || IS_UNLISTED(x) ||
                                         shown_and_told[x] >= before[core[SCRIPT].epoch] + core[SCRIPT].updates)
         }
     fi;
@@ -254,12 +279,17 @@ inline judge(at) {
 #ifdef GONE_WITHOUT_A_COMPARE
 #define ABSENT(at, site) true
 #else
-#define ABSENT(at, site) (key[site] == NOBODY || !((core[at].gone & ~core[SCRIPT].gone) & (1 << (site))))
+#define ABSENT(at, site) (key[site] == NOBODY || !((core[at].gone & ~core[SCRIPT].gone) & (1 << NAME(site))))
 #endif
 #if SITES == 1
 #define ALL_ABSENT(at) ABSENT(at, 0)
 #else
 #define ALL_ABSENT(at) (ABSENT(at, 0) && ABSENT(at, 1))
+#endif
+#if defined(FLEET) && SITES == 2
+#define NO_KEY_OF_THE_LAST (key[0] == NOBODY && key[1] == NOBODY)
+#else
+#define NO_KEY_OF_THE_LAST (key[SITES - 1] == NOBODY)
 #endif
 #ifdef GOES_ON_AFTER_ANOTHER
 #define IS_NEXT(number) (last >= (number) - 1)
@@ -298,7 +328,7 @@ inline tell_client(client, at) {
 /* A primary. */
 
 #define IS_DUE(at) (core[at].wish || core[at].asks >= EVERY)   /* epoch/law.go isDue */
-#define KNOWN(site) (told[me * SITES + (site)] > core[OPEN].applied[site] -> told[me * SITES + (site)] : core[OPEN].applied[site])
+#define KNOWN(site) (told[me * NAMES + (site)] > core[OPEN].applied[site] -> told[me * NAMES + (site)] : core[OPEN].applied[site])
                                                                /* epoch/sites.go known */
 #define HERE(site) (core[OPEN].leaves & (1 << (site)) || KNOWN(site) >= core[OPEN].updates)   /* epoch/sites.go isHere: known */
 #define ALL_ACKED (core[OPEN].acked == core[OPEN].updates)     /* epoch/law.go unended: isDue holdsUp */
@@ -313,7 +343,7 @@ inline tell_client(client, at) {
 #else
 #define HELD(site) (!UP_TO(site) || (core[OPEN].leaves & (1 << (site))) && !(core[OPEN].gone & (1 << (site))))
 #endif
-#if SITES == 1
+#if NAMES == 1
 #define ALL_HERE HERE(0)
 #define NONE_HELD (!HELD(0))
 #define MAY_ACK (core[OPEN].applied[0] + LIMIT > core[OPEN].acked)
@@ -420,7 +450,7 @@ inline tell_answers(at) {                            /* primary/calls.go tell */
 /* What sites told goes into the turn, or later. Then what may be acknowledged is. */
 inline work() {                                      /* epoch/turn.go Work: addTold settle */
     if                                               /* epoch/turn.go addTold: known add */
-    :: for (y : 0 .. SITES - 1) {
+    :: for (y : 0 .. NAMES - 1) {
 #ifdef REPORTS_WHAT_NO_SITE_TOLD
            best = core[OPEN].updates;
 #else
@@ -462,7 +492,10 @@ inline seal() {                                      /* epoch/turn.go Seal: isOv
 #ifndef BEGINS_ONE_EPOCH_AFTER_ANOTHER
         core[OPEN].wish = false;
 #endif
-        for (y : 0 .. SITES - 1) { core[OPEN].applied[y] = 0; told[me * SITES + y] = 0 }
+        for (y : 0 .. NAMES - 1) { core[OPEN].applied[y] = 0; told[me * NAMES + y] = 0 }
+#ifdef RETURNS
+        if :: core[OPEN].epoch == 3 -> core[OPEN].leaves = 0; core[OPEN].gone = 0 :: else fi;
+#endif
         for (y : 0 .. MOST - 1) { core[OPEN].owner[y] = 0 }
 #ifdef FORGETS_THE_CLIENTS
         for (y : 0 .. CLIENTS - 1) { core[OPEN].number[y] = 0; core[OPEN].answer[y] = 0 }
@@ -486,7 +519,7 @@ inline seal() {                                      /* epoch/turn.go Seal: isOv
 inline forget() {                                    /* primary/primary.go forget: Close */
     mode[me] = stands; flight[me] = stands; number_of[me] = 0; dirty[me] = false; turn_of[me] = 0;
     open_answers[me] = 0; flying_answers[me] = 0; open_asks[me] = 0; flying_asks[me] = 0;
-    for (y : 0 .. SITES - 1) { told[me * SITES + y] = 0 }
+    for (y : 0 .. NAMES - 1) { told[me * NAMES + y] = 0 }
     y = 0;
     drop(OPEN); drop(FLYING)
 }
@@ -555,7 +588,7 @@ end:
     /* A place comes, of those that were told. One of another epoch counts for nothing. */
     :: atomic { mode[me] == writes ->                /* primary/ask.go Tell: mayTakeLocked check Tell */
            if :: it = 0
-#if SITES > 1
+#if NAMES > 1
               :: it = 1
 #endif
            fi;
@@ -567,12 +600,25 @@ end:
 #else
                best = places[it * (EPOCHS + 1) + core[OPEN].epoch];
 #endif
+#ifdef FLEET
+               for (y : 0 .. SITES - 1) {            /* fleet/fleet.go take: isBefore */
+                   z = places[y * (EPOCHS + 1) + core[OPEN].epoch];
+#ifdef FLEET_TELLS_THE_GREATEST
+                   if :: z > best -> best = z :: else fi
+#else
+                   if :: z < best && !IS_UNLISTED(y) -> best = z :: else fi
+#endif
+               }
+#ifdef ANEW
+               if :: !FLEET_TELLS || best < before_anew[core[OPEN].epoch] -> best = before_anew[core[OPEN].epoch] :: else fi;
+#endif
+#endif
                if                                    /* epoch/sites.go Tell: of known */
                :: !(core[OPEN].leaves & (1 << it)) && best > KNOWN(it) ->
                    /* One that is beyond the updates is of an entry that this core has not run yet. */
                    to_entry_of_best();
                    NEVER(HONEST_PLACE_IS_REFUSED, best <= core[OPEN].updates || z > WRITTEN_TO);
-                   if :: best <= core[OPEN].updates -> told[me * SITES + it] = best :: else fi
+                   if :: best <= core[OPEN].updates -> told[me * NAMES + it] = best :: else fi
                :: else
                fi;
                best = 0; y = 0; z = 0
@@ -582,15 +628,15 @@ end:
     :: d_step { mode[me] == writes && IS_WISHED && !core[OPEN].wish && !CARRIES(OPEN) ->
            core[OPEN].wish = true; dirty[me] = true; /* epoch/ending.go AskNext: complete mayWish add */
 #ifdef LEAVE
-           core[OPEN].leaves = core[OPEN].leaves | (1 << (SITES - 1));
+           if :: core[OPEN].epoch == 1 -> core[OPEN].leaves = 1 << NAME(SITES - 1) :: else fi;
 #endif
        }
 #ifdef LEAVE
     /* The engine had no key of a site that leaves. */
     :: d_step { mode[me] == writes && !CARRIES(OPEN) && core[OPEN].leaves && core[OPEN].gone != core[OPEN].leaves &&
-                key[SITES - 1] == NOBODY ->
+                NO_KEY_OF_THE_LAST ->
            core[OPEN].gone = core[OPEN].leaves;      /* primary/leaving.go look: Holds hold */ /* epoch/ending.go Gone: of add */
-           core[OPEN].applied[SITES - 1] = core[OPEN].updates; dirty[me] = true }
+           core[OPEN].applied[NAME(SITES - 1)] = core[OPEN].updates; dirty[me] = true }
 #endif
 #if HANDS
     /* A key that was put by hand, and that was seen for as long as the engine keeps a lease, is taken away. */
@@ -630,7 +676,7 @@ end:
 #define ACKED (before[core[SCRIPT].epoch] + core[SCRIPT].acked)
 /* What is shown has all that was told for the site, and lacks no more than the limit of what is acknowledged. */
 #define IS_ENOUGH (PLACE >= shown_and_told[SITE] && PLACE + LIMIT >= ACKED && PLACE + LIMIT >= acknowledged)
-#define IS_GONE (core[SCRIPT].gone & (1 << SITE))
+#define IS_GONE (core[SCRIPT].gone & (1 << NAME(SITE)))
 #ifdef SERVES_BEFORE_IT_HAS_CAUGHT_UP
 #define REACHED (shown[me] > 0)
 #else
@@ -640,6 +686,12 @@ end:
 #define LIVES (!over[me])
 #else
 #define LIVES relies[me]                             /* engine/lease.go Lives: Now */
+#endif
+/* A place is told again that a process of the fleet does not know. */
+#ifdef ANEW
+#define IS_TOLD_AGAIN (PLACE - before[epoch_of[shown[me]]] > places[SITE * (EPOCHS + 1) + epoch_of[shown[me]]])
+#else
+#define IS_TOLD_AGAIN false
 #endif
 #ifdef TELLS_WITHOUT_THE_LEASE
 #define MAY_TELL (!over[me])
@@ -718,7 +770,7 @@ end:
 #ifdef SERVES_AFTER_IT_WAS_TAKEN_OUT
            :: false
 #else
-           :: left_by[run_to[me]] & (1 << SITE) -> over[me] = true; shown[me] = 0; end_term()
+           :: left_by[run_to[me]] & (1 << NAME(SITE)) -> over[me] = true; shown[me] = 0; end_term()
 #endif
            :: else -> shown[me] = run_to[me]
            fi }
@@ -811,15 +863,16 @@ end:
         NEVER(GONE_SITE_SERVES, bad[me] != 2)
 #endif
     /* It tells the place that it shows, until one is taken in the term. */
-#ifdef UNLISTED
-    :: d_step { MAY_TELL && REACHED && !over[me] ->
+#if defined(UNLISTED) || defined(ANEW)
+    :: d_step { MAY_TELL && REACHED && !over[me] && (IS_FOREIGN || IS_UNLISTED(SITE)) ->
            over[me] = true; shown[me] = 0; end_term() }   /* site/site.go isRefused */
-#else
-    :: atomic { MAY_TELL && REACHED && (PLACE > shown_and_told[SITE] || !taken[me]) ->
+#endif
+#ifndef UNLISTED
+    :: atomic { MAY_TELL && REACHED && !IS_UNLISTED(SITE) && (PLACE > shown_and_told[SITE] || !taken[me] || IS_TOLD_AGAIN) ->
            d_step {                                  /* site/site.go tellAll: now placeOf tell wasTaken */
                if
-               :: PLACE > shown_and_told[SITE] ->
-                   shown_and_told[SITE] = PLACE;
+               :: PLACE > shown_and_told[SITE] || IS_TOLD_AGAIN ->
+                   shown_and_told[SITE] = (PLACE > shown_and_told[SITE] -> PLACE : shown_and_told[SITE]);
                    places[SITE * (EPOCHS + 1) + epoch_of[shown[me]]] = PLACE - before[epoch_of[shown[me]]]
                :: else
                fi
@@ -828,12 +881,28 @@ end:
 #endif
 #ifdef TELLS_BEFORE_IT_SHOWS
     :: d_step { LIVES && REACHED && run_to[me] < last && place_of[run_to[me] + 1] > shown_and_told[SITE] &&
-                !(left_by[run_to[me] + 1] & (1 << SITE)) ->
+                !(left_by[run_to[me] + 1] & (1 << NAME(SITE))) ->
            shown_and_told[SITE] = place_of[run_to[me] + 1];
            places[SITE * (EPOCHS + 1) + epoch_of[run_to[me] + 1]] = place_of[run_to[me] + 1] - before[epoch_of[run_to[me] + 1]] }
 #endif
     od
 }
+
+/* The process of a fleet is started anew, without its last site. It knows no place that was told before. */
+#ifdef ANEW
+proctype fleet() {
+end:
+    do
+    :: d_step { !began_anew -> began_anew = true;
+           for (y : 0 .. EPOCHS) {
+               before_anew[y] = (places[y] < places[EPOCHS + 1 + y] -> places[y] : places[EPOCHS + 1 + y]);
+               places[y] = 0; places[EPOCHS + 1 + y] = 0
+           }
+           y = 0 }
+    :: d_step { began_anew && !fleet_looked && key[SITES - 1] == NOBODY -> fleet_looked = true }
+    od
+}
+#endif
 
 /* A client asks under the next number, though it has no answer. */
 #ifdef HASTY
@@ -859,6 +928,9 @@ init {
 #ifdef HASTY
         run hasty();
 #endif
+#ifdef ANEW
+        run fleet();
+#endif
     }
 #ifdef PROBE_EACH_REQUEST_IS_ANSWERED
     ;
@@ -874,6 +946,17 @@ end:
     ;
 end:
     core[SCRIPT].epoch == 2 && core[SCRIPT].gone -> assert(false)
+#endif
+#ifdef PROBE_A_SITE_IS_BACK
+    ;
+end:
+    core[SCRIPT].epoch == 3 && relies[ALL - 1] && taken[ALL - 1] && epoch_of[shown[ALL - 1]] == 3 && shown[ALL - 1] >= from[ALL - 1] ->
+        assert(false)
+#endif
+#ifdef PROBE_A_FLEET_ANEW_ACKNOWLEDGES
+    ;
+end:
+    began_anew && acknowledged && places[1] == 1 && shown_and_told[1] == 0 && leases[1] -> assert(false)
 #endif
 #ifdef PROBE_THE_SECOND_PROCESS_SERVES
     ;

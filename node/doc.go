@@ -8,14 +8,14 @@
 //
 //  1. A client asks a primary by HTTP: its name, a number, changes. The number is the client's own, and greater than its last one. A
 //     primary that does not write passes the request on to the one that does.
-//  2. The primary runs the request in its open turn, with what sites told, and asks the store for acknowledgements. Each step is run as
-//     it comes, while the turn before is on its way to the engine.
-//  3. It seals the turn as an entry, and creates the key script/NUMBER by one transaction. That is all that an update writes. Requests,
+//  2. The primary runs the request in its open batch, with what sites told, and asks the store for acknowledgements. Each step is run as
+//     it comes, while the batch before is on its way to the engine.
+//  3. It seals the batch as an entry, and creates the key script/NUMBER by one transaction. That is all that an update writes. Requests,
 //     what sites told, and the answers that were decided stand in the entry.
 //  4. Once a majority of members has the entry on its disks, the answers in it are told. So the wait of a client is the rest of the
 //     transaction that is on its way, and its own.
 //  5. Each site takes the entry by a watch, applies its updates in a store of its own, and shows the new values to its readers.
-//  6. It tells its place to the primary, after it has shown it. The place goes into a later turn.
+//  6. It tells its place to the primary, after it has shown it. The place goes into a later batch.
 //
 // # What is in the engine
 //

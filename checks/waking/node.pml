@@ -107,7 +107,7 @@ typedef Core {
 #endif
 }
 
-/* That of the script, and of each primary its open turn and the turn on its way. The last one is on its way from a process that died. */
+/* That of the script, and of each primary its open batch and the batch on its way. The last one is on its way from a process that died. */
 Core core[2 + 2 * PRIMARIES];
 #define SCRIPT 0
 #define OPEN (1 + me)
@@ -131,20 +131,20 @@ byte leases[SITES];           /* how many there were */
 mtype = { stands, takes, writes, sent, written, refused };
 mtype mode[PRIMARIES] = stands;
 mtype flight[PRIMARIES] = stands;
-byte number_of[PRIMARIES];    /* of the turn on its way, and else of the last entry that was run */
-bool dirty[PRIMARIES];        /* the open turn has a step */
+byte number_of[PRIMARIES];    /* of the batch on its way, and else of the last entry that was run */
+bool dirty[PRIMARIES];        /* the open batch has a step */
 byte told[PRIMARIES * NAMES]; /* what a site told, and the core does not have */
 byte open_answers[PRIMARIES], flying_answers[PRIMARIES];   /* the clients with an answer that is not written, and with such a request */
 byte open_asks[PRIMARIES], flying_asks[PRIMARIES];
-byte turn_of[PRIMARIES];      /* which of all tries to take over it writes by */
-byte take_overs, deaths, late_number, late_turn, writer;
+byte term_of[PRIMARIES];      /* which of all tries to take over it writes by */
+byte take_overs, deaths, late_number, late_term, writer;
 bool late_takes;
 
 /* The processes of sites. */
 byte run_to[ALL], shown[ALL], from[ALL], end_at_start[ALL];
 bool over[ALL];
 mtype = { no_key, created, looked, held };
-mtype hold[ALL] = no_key;
+mtype stage[ALL] = no_key;
 bool relies[ALL], fresh[ALL], renewed[ALL], taken[ALL];
 byte bad[ALL];                /* a reader has taken values that are no good: too little, or of a site that is gone */
 byte mine[ALL];               /* the lease that it holds, or looks after */
@@ -226,7 +226,7 @@ byte before_anew[EPOCHS + 1];        /* of each epoch the last place that the pr
 #ifdef FLEET_TELLS_BEFORE_IT_LOOKED
 #define FLEET_TELLS true
 #else
-#define FLEET_TELLS (!began_anew || fleet_looked)    /* fleet/fleet.go Look: Holds SiteKey */
+#define FLEET_TELLS (!began_anew || fleet_looked)    /* fleet/fleet.go Look: SiteKeys SiteKey */
 #endif
 #else
 #define IS_UNLISTED(site) false
@@ -297,10 +297,10 @@ inline judge(at) {
 #define IS_NEXT(number) (last == (number) - 1)
 #endif
 
-inline commit(at, turn, is_take_over) {
+inline commit(at, term, is_take_over) {
     if
-    :: is_take_over -> writer = turn
-    :: else -> NEVER(TWO_PRIMARIES_WRITE, writer == turn)
+    :: is_take_over -> writer = term
+    :: else -> NEVER(TWO_PRIMARIES_WRITE, writer == term)
     fi;
     judge(at);
     last++;
@@ -361,7 +361,7 @@ inline tell_client(client, at) {
 #else
 #define CARRIES(at) false
 #endif
-#define WRITTEN_TO (flight[me] == stands -> number_of[me] : number_of[me] - 1)   /* epoch/turn.go Written */
+#define WRITTEN_TO (flight[me] == stands -> number_of[me] : number_of[me] - 1)   /* epoch/batch.go Written */
 #ifdef TAKES_REQUESTS_AGAIN
 #define IS_NEW(c, n) ((n) >= core[OPEN].number[c])
 #else
@@ -372,7 +372,7 @@ inline tell_client(client, at) {
 #else
 #define IS_WISHED (core[OPEN].epoch <= WISHES)
 #endif
-#define GETS(process) (hold[process] == created || hold[process] == looked)
+#define GETS(process) (stage[process] == created || stage[process] == looked)
 #define MAY_RELY(process) (relies[process] || fresh[process] && (renewed[process] || GETS(process)))
 #ifdef REMOVES_A_KEY_AT_ONCE
 #define NOBODY_RELIES true
@@ -381,7 +381,7 @@ inline tell_client(client, at) {
 #else
 #define NOBODY_RELIES (!MAY_RELY(ALL - 1) && !MAY_RELY(ALL - 2))
 #endif
-#ifdef ANSWERS_FROM_THE_OPEN_TURN
+#ifdef ANSWERS_FROM_THE_OPEN_BATCH
 #define IS_WRITTEN(c) true
 #else
 #define IS_WRITTEN(c) !((open_answers[me] | flying_answers[me]) & (1 << (c)))
@@ -404,8 +404,8 @@ inline tell_client(client, at) {
 #endif
 
 /* A request comes, for the first time or again. While the epoch ends it is not taken; a site may count as away while it lacks updates. */
-inline ask(c, n, d) {                                /* epoch/turn.go Ask: verdict take add */ /* epoch/ending.go ends: isDue isHere */
-    if                                               /* epoch/turn.go verdict */
+inline ask(c, n, d) {                                /* epoch/batch.go Ask: reply take add */ /* epoch/ending.go ends: isDue isHere */
+    if                                               /* epoch/batch.go reply */
     :: IS_NEW(c, n) && core[OPEN].updates < MOST && !CARRIES(OPEN) && !(IS_DUE(OPEN) && ALL_HERE) ->
         core[OPEN].owner[core[OPEN].updates] = CODE(c, n);
         core[OPEN].updates++; core[OPEN].asks++;
@@ -434,7 +434,7 @@ inline ask(c, n, d) {                                /* epoch/turn.go Ask: verdi
     fi
 }
 
-/* The clients that wait are told the answers of a turn that is written, or hear nothing. */
+/* The clients that wait are told the answers of a batch that is written, or hear nothing. */
 inline tell_answers(at) {                            /* primary/calls.go tell */
     for (y : 0 .. CLIENTS - 1) {
         if
@@ -447,9 +447,9 @@ inline tell_answers(at) {                            /* primary/calls.go tell */
     y = 0
 }
 
-/* What sites told goes into the turn, or later. Then what may be acknowledged is. */
-inline work() {                                      /* epoch/turn.go Work: addTold settle */
-    if                                               /* epoch/turn.go addTold: known add */
+/* What sites told goes into the batch, or later. Then what may be acknowledged is. */
+inline work() {                                      /* epoch/batch.go Work: addTold settle */
+    if                                               /* epoch/batch.go addTold: known add */
     :: for (y : 0 .. NAMES - 1) {
 #ifdef REPORTS_WHAT_NO_SITE_TOLD
            best = core[OPEN].updates;
@@ -462,7 +462,7 @@ inline work() {                                      /* epoch/turn.go Work: addT
     :: true
     fi;
     best = 0; y = 0;
-    do                                               /* epoch/turn.go settle: headIsFree addSettle */
+    do                                               /* epoch/batch.go settle: headIsFree addSettle */
                                                      /* epoch/run.go noteSettle: decide */
     :: core[OPEN].acked < core[OPEN].updates && MAY_ACK ->
         core[OPEN].acked++; dirty[me] = true;
@@ -477,8 +477,8 @@ inline work() {                                      /* epoch/turn.go Work: addT
     y = 0; z = 0
 }
 
-/* The open turn is sealed where it has steps. Where it has none and the epoch is over, the next entry carries over or begins. */
-inline seal() {                                      /* epoch/turn.go Seal: isOver closing seal */
+/* The open batch is sealed where it has steps. Where it has none and the epoch is over, the next entry carries over or begins. */
+inline seal() {                                      /* epoch/batch.go Seal: isOver closing seal */
                                                      /* epoch/ending.go isOver: ends unended */
     if
     :: dirty[me]
@@ -517,7 +517,7 @@ inline seal() {                                      /* epoch/turn.go Seal: isOv
 }
 
 inline forget() {                                    /* primary/primary.go forget: Close */
-    mode[me] = stands; flight[me] = stands; number_of[me] = 0; dirty[me] = false; turn_of[me] = 0;
+    mode[me] = stands; flight[me] = stands; number_of[me] = 0; dirty[me] = false; term_of[me] = 0;
     open_answers[me] = 0; flying_answers[me] = 0; open_asks[me] = 0; flying_asks[me] = 0;
     for (y : 0 .. NAMES - 1) { told[me * NAMES + y] = 0 }
     y = 0;
@@ -537,15 +537,15 @@ end:
     do
     /* It runs the script up to its end, and writes an entry behind it. */
     :: d_step { mode[me] == stands && take_overs < TAKES && last < ENTRIES && (take_overs > 0 || me == 0) ->
-           take_overs++; turn_of[me] = take_overs;   /* primary/standby.go takeOver: catchUp TakeOver firstTurn send Replay */
+           take_overs++; term_of[me] = take_overs;   /* primary/standby.go takeOver: catchUp TakeOver firstBatch send Replay */
            copy(OPEN, SCRIPT); copy(FLYING, SCRIPT); number_of[me] = last + 1; flight[me] = sent; mode[me] = takes;
            if
            :: last == 0 -> core[OPEN].epoch = 1; core[FLYING].epoch = 1
            :: else
            fi }
-    /* The engine takes the turn that is on its way, or does not. */
+    /* The engine takes the batch that is on its way, or does not. */
     :: d_step { flight[me] == sent && IS_NEXT(number_of[me]) && ALL_ABSENT(FLYING) && last < ENTRIES ->
-           commit(FLYING, turn_of[me], mode[me] == takes); flight[me] = written }   /* primary/write.go send: Write */
+           commit(FLYING, term_of[me], mode[me] == takes); flight[me] = written }   /* primary/write.go send: Write */
     :: d_step { flight[me] == sent && !(IS_NEXT(number_of[me]) && ALL_ABSENT(FLYING)) -> flight[me] = refused }
     :: atomic { flight[me] == written ->
            mode[me] = writes; flight[me] = stands;   /* primary/write.go land: Written tell */
@@ -566,7 +566,7 @@ end:
            deaths++;
            if
            :: flight[me] == sent ->
-               late_number = number_of[me]; late_turn = turn_of[me]; late_takes = (mode[me] == takes); copy(LATE, FLYING)
+               late_number = number_of[me]; late_term = term_of[me]; late_takes = (mode[me] == takes); copy(LATE, FLYING)
            :: else
            fi;
            forget() }
@@ -635,13 +635,13 @@ end:
     /* The engine had no key of a site that leaves. */
     :: d_step { mode[me] == writes && !CARRIES(OPEN) && core[OPEN].leaves && core[OPEN].gone != core[OPEN].leaves &&
                 NO_KEY_OF_THE_LAST ->
-           core[OPEN].gone = core[OPEN].leaves;      /* primary/leaving.go look: Holds hold */ /* epoch/ending.go Gone: of add */
+           core[OPEN].gone = core[OPEN].leaves;      /* primary/leaving.go look: SiteKeys clear */ /* epoch/ending.go Gone: of add */
            core[OPEN].applied[NAME(SITES - 1)] = core[OPEN].updates; dirty[me] = true }
 #endif
 #if HANDS
     /* A key that was put by hand, and that was seen for as long as the engine keeps a lease, is taken away. */
     :: d_step { mode[me] == writes && !CARRIES(OPEN) && core[OPEN].leaves && key[SITES - 1] == BY_HAND && NOBODY_RELIES ->
-           key[SITES - 1] = NOBODY }                 /* primary/leaving.go hold: Now RemoveHold */
+           key[SITES - 1] = NOBODY }                 /* primary/leaving.go clear: Now RemoveKey */
 #endif
     :: atomic { mode[me] == writes && flight[me] == stands && number_of[me] < ENTRIES && core[OPEN].epoch < EPOCHS &&
                 (dirty[me] || SOME_TOLD || IS_DUE(OPEN)) ->
@@ -657,14 +657,14 @@ end:
     :: d_step { late_number && last < ENTRIES ->
            if
            :: IS_NEXT(late_number) && ALL_ABSENT(LATE) ->
-               commit(LATE, late_turn, late_takes)
+               commit(LATE, late_term, late_takes)
 #ifdef PROBE_A_LATE_WRITE_IS_TAKEN
                ;
                assert(late_takes)
 #endif
            :: else
            fi;
-           late_number = 0; late_turn = 0; late_takes = false; drop(LATE) }
+           late_number = 0; late_term = 0; late_takes = false; drop(LATE) }
     od
 }
 
@@ -702,7 +702,7 @@ end:
 #if defined(SERVES_WITHOUT_THE_LEASE) || defined(KEEPS_ITS_TERM)
 #define MAY_READ true
 #else
-#define MAY_READ (hold[me] == held)
+#define MAY_READ (stage[me] == held)
 #endif
 #ifdef SERVES_BEFORE_A_PLACE_IS_TAKEN
 #define IS_TAKEN true
@@ -738,7 +738,7 @@ inline rely() {                                      /* engine/lease.go set */
 }
 
 inline end_term() {
-    mine[me] = 0; relies[me] = false; fresh[me] = false; renewed[me] = false; hold[me] = no_key;
+    mine[me] = 0; relies[me] = false; fresh[me] = false; renewed[me] = false; stage[me] = no_key;
 #ifndef KEEPS_ITS_TERM
     bad[me] = 0;
 #endif
@@ -785,7 +785,7 @@ end:
                                                      /* site/site.go start: Start Last NewReplica */
 #endif
     /* It dies, and another is started. */
-    :: d_step { falls < FALLS && (run_to[me] > 0 || hold[me] != no_key) ->
+    :: d_step { falls < FALLS && (run_to[me] > 0 || stage[me] != no_key) ->
            falls++;
            if :: key[SITE] == OWN -> key[SITE] = DEAD :: else fi;
            end_term();
@@ -793,11 +793,11 @@ end:
            end_at_start[me] = last;
            run_to[me] = first_of[core[SCRIPT].epoch] - 1 }
     /* It looks for its key, and creates it where there is none. The answer may be lost. */
-    :: atomic { !over[me] && hold[me] == no_key && shown[me] > 0 && shown[me] >= end_at_start[me] && key[SITE] == NOBODY &&
+    :: atomic { !over[me] && stage[me] == no_key && shown[me] > 0 && shown[me] >= end_at_start[me] && key[SITE] == NOBODY &&
                 leases[SITE] < TERMS && (leases[SITE] > 0 || me % PROCESSES == 0) ->
            leases[SITE]++;                           /* engine/lease.go acquire: find create awaitEnd renew take */
            if                                        /* engine/lease.go create: Grant Txn Commit revoke take */
-           :: key[SITE] = OWN; lease[SITE] = leases[SITE]; mine[me] = leases[SITE]; hold[me] = created; fresh[me] = true
+           :: key[SITE] = OWN; lease[SITE] = leases[SITE]; mine[me] = leases[SITE]; stage[me] = created; fresh[me] = true
            :: key[SITE] = OWN; lease[SITE] = leases[SITE]
 #ifdef CREATES_LATE
            :: creates[me] == 0 -> creates[me] = leases[SITE]
@@ -808,39 +808,39 @@ end:
     :: atomic { creates[me] -> if :: key[SITE] == NOBODY -> key[SITE] = OWN; lease[SITE] = creates[me] :: true fi; creates[me] = 0 }
 #endif
     /* Another was faster, so it gives back a lease that has no key. */
-    :: d_step { given[me] && hold[me] == no_key && key[SITE] != NOBODY && key[SITE] != OWN -> given[me] = 0 }
+    :: d_step { given[me] && stage[me] == no_key && key[SITE] != NOBODY && key[SITE] != OWN -> given[me] = 0 }
     /* The key is its own, by a call whose answer was lost. */
-    :: d_step { !over[me] && hold[me] == no_key && key[SITE] == OWN && MAY_TAKE_UP ->
-           hold[me] = created; fresh[me] = true; mine[me] = lease[SITE] }
+    :: d_step { !over[me] && stage[me] == no_key && key[SITE] == OWN && MAY_TAKE_UP ->
+           stage[me] = created; fresh[me] = true; mine[me] = lease[SITE] }
 #ifdef READS_THE_END_FIRST
-    :: d_step { hold[me] == no_key && from[me] == 0 && last > 0 -> from[me] = last }
+    :: d_step { stage[me] == no_key && from[me] == 0 && last > 0 -> from[me] = last }
 #endif
     /* It has the key: it reads the end of the script, and relies on the lease then. Where it cannot read that it gives the key back. */
-    :: d_step { hold[me] == created ->               /* engine/lease.go take: whenHeld revoke set */ /* site/site.go mayServe: Last */
+    :: d_step { stage[me] == created ->              /* engine/lease.go take: whenHeld revoke set */ /* site/site.go mayServe: Last */
 #if defined(READS_THE_END_ONCE)
            if :: from[me] == 0 -> from[me] = last :: else fi;
 #elif !defined(READS_THE_END_FIRST)
            from[me] = last;
 #endif
-           taken[me] = false; hold[me] = looked }
-    :: d_step { hold[me] == looked ->
+           taken[me] = false; stage[me] = looked }
+    :: d_step { stage[me] == looked ->
 #ifndef KEEPS_ITS_TERM
            bad[me] = 0;
 #endif
-           hold[me] = held; rely() }
+           stage[me] = held; rely() }
 #ifdef REVOKES_LATE
-    :: atomic { hold[me] == created -> give_up() }
+    :: atomic { stage[me] == created -> give_up() }
 #endif
     /* It asks the engine to renew the lease, which looks at the key too. The answer may be lost. */
-    :: d_step { hold[me] == held && !renewed[me] && !fresh[me] && IS_MINE -> renewed[me] = true; fresh[me] = true }
+    :: d_step { stage[me] == held && !renewed[me] && !fresh[me] && IS_MINE -> renewed[me] = true; fresh[me] = true }
                                                      /* engine/lease.go renew: LeaseKeepAlive Send Recv Get */
-    :: atomic { hold[me] == held && !renewed[me] && !IS_MINE -> give_up() }   /* engine/lease.go step: Now renew giveUp set */
+    :: atomic { stage[me] == held && !renewed[me] && !IS_MINE -> give_up() }   /* engine/lease.go step: Now renew giveUp set */
     :: atomic { renewed[me] -> renewed[me] = false; if :: d_step { rely() } :: fresh[me] = false fi }
     /* It gives the key back, to end. */
 #ifdef GIVES_BACK_FIRST
-    :: d_step { hold[me] == held && IS_MINE -> key[SITE] = NOBODY }
+    :: d_step { stage[me] == held && IS_MINE -> key[SITE] = NOBODY }
 #endif
-    :: atomic { hold[me] == held && IS_MINE && leases[SITE] < TERMS -> give_up() }   /* engine/lease.go Run: giveUp step */
+    :: atomic { stage[me] == held && IS_MINE && leases[SITE] < TERMS -> give_up() }   /* engine/lease.go Run: giveUp step */
     :: d_step { revokes[me] -> if :: key[SITE] == OWN && lease[SITE] == revokes[me] -> key[SITE] = NOBODY :: else fi; revokes[me] = 0 }
     /* Time. */
     :: relies[me] -> relies[me] = false

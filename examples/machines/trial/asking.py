@@ -55,7 +55,7 @@ class Asking:
         names += [[f"crowd{index}_{one}" for one in range(CROWD)] for index in range(crowds)]
         self.clients = [form.clients(some) for some in names]
         # Of each the number of its last request, and a lock: who has it has the client wait. Then how many requests are open.
-        self.asked, self.turns = [0] * len(names), [threading.Lock() for _ in names]
+        self.asked, self.locks = [0] * len(names), [threading.Lock() for _ in names]
         self.open, self.counting = 0, threading.Lock()
         self.rests = threading.Event()
         self.threads: list[threading.Thread] = []
@@ -70,7 +70,7 @@ class Asking:
         """More clients, which ask when they are told to, by this index."""
         self.clients.append(self.form.clients(names))
         self.asked.append(0)
-        self.turns.append(threading.Lock())
+        self.locks.append(threading.Lock())
         return len(self.clients) - 1
 
     def has_ended(self) -> bool:
@@ -82,7 +82,7 @@ class Asking:
         chance, client = random.Random(seed), self.clients[index]
         while not self.rests.is_set():
             changes = {name: some_changes(chance) for name in client.names}
-            with self.turns[index]:
+            with self.locks[index]:
                 losses = len(self.losses)
                 answers = self.propose(index, changes)
                 if chance.random() < 0.05:
@@ -132,13 +132,13 @@ class Asking:
     def alone(self) -> Iterator[None]:
         """The clients wait meanwhile. All that they asked is answered."""
         with contextlib.ExitStack() as stack:
-            for client, turn in zip(self.clients[1:], self.turns[1:]):
+            for client, lock in zip(self.clients[1:], self.locks[1:]):
                 ends = time.monotonic() + PATIENCE
-                while not turn.acquire(timeout=0.2):
+                while not lock.acquire(timeout=0.2):
                     self.look()
                     if time.monotonic() > ends:
                         sys.exit(f"{client.names[0]} has no answer after {PATIENCE} seconds")
-                stack.callback(turn.release)
+                stack.callback(lock.release)
             yield
 
     def last(self) -> Place:

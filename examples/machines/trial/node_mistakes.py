@@ -13,7 +13,7 @@ RUNS = "			if err := s.run(raw); err != nil {\n				return err\n			}\n"
 
 MISTAKES: Mistakes = {
     # The primary writes that sites told what is in the log, whether they did or not.
-    "reports_what_no_site_told": [("internal/epoch/turn.go", "		places := site.known()\n", "		places := c.updates\n")],
+    "reports_what_no_site_told": [("internal/epoch/batch.go", "		places := site.known()\n", "		places := c.updates\n")],
     # The client is told once the update has a number.
     "answers_before_it_settles": [
         (
@@ -30,7 +30,7 @@ MISTAKES: Mistakes = {
         ("internal/engine/pages.go", "mostTime = 30 * time.Second", "mostTime = CallTime"),
     ],
     # A request that comes again is proposed again.
-    "takes_requests_again": [("internal/epoch/turn.go", TAKEN, "case request.Number >= last.number:\n")],
+    "takes_requests_again": [("internal/epoch/batch.go", TAKEN, "case request.Number >= last.number:\n")],
     # A primary that was replaced writes after the entries of the other one.
     "goes_on_after_another": [
         (
@@ -44,9 +44,9 @@ MISTAKES: Mistakes = {
     "takes_requests_before_it_writes": [
         (
             "internal/primary/write.go",
-            "		go func() { w.landed <- w.send(ctx, turn) }()\n",
-            "		w.calls.tell(turn.Answers)\n"
-            "		go func() { time.Sleep(200 * time.Millisecond); w.landed <- w.send(ctx, turn) }()\n",
+            "		go func() { w.landed <- w.send(ctx, batch) }()\n",
+            "		w.calls.tell(batch.Answers)\n"
+            "		go func() { time.Sleep(200 * time.Millisecond); w.landed <- w.send(ctx, batch) }()\n",
         ),
     ],
     # The next epoch begins with the values that the last one began with.
@@ -75,7 +75,7 @@ MISTAKES: Mistakes = {
     ],
     # Who asks under a number that is before the last one waits for ever.
     "tells_nothing_of_late_requests": [
-        ("internal/epoch/turn.go", "		return Verdict{Kind: Passed, Last: last.number}\n", "		return Verdict{Kind: Waits}\n"),
+        ("internal/epoch/batch.go", "		return Reply{Kind: Passed, Last: last.number}\n", "		return Reply{Kind: Waits}\n"),
     ],
     # Two processes of a site serve readers, since neither looks at the lease.
     "serves_without_the_lease": [
@@ -131,7 +131,7 @@ MISTAKES: Mistakes = {
         ),
     ],
     # Other changes under a number that was taken have the answer to those before.
-    "answers_other_changes": [("internal/epoch/turn.go", "	case script.DigestOf(request.Changes) != last.digest:\n", "	case false:\n")],
+    "answers_other_changes": [("internal/epoch/batch.go", "	case script.DigestOf(request.Changes) != last.digest:\n", "	case false:\n")],
     # A primary stands by though it was started with other settings.
     "stands_by_with_other_settings": [
         ("internal/primary/standby.go", "			if err = p.agrees(core); err != nil {\n", "			if false {\n"),
@@ -147,9 +147,9 @@ MISTAKES: Mistakes = {
     "tells_without_a_site_that_serves": [
         ("internal/fleet/fleet.go", "f.looked && len(f.unlisted) == 0\n", "true\n"),
     ],
-    # A turn counts whatever comes, and is written unread.
+    # A batch counts whatever comes, and is written unread.
     "writes_what_nobody_reads": [
-        ("internal/epoch/turn.go", "	turnCounts = 200_000\n", "	turnCounts = 1 << 40\n"),
-        ("internal/epoch/turn.go", "	if err := script.Check(tr.Text); err != nil {\n", "	if err := script.Check(nil); false {\n"),
+        ("internal/epoch/batch.go", "	batchCounts = 200_000\n", "	batchCounts = 1 << 40\n"),
+        ("internal/epoch/batch.go", "	if err := script.Check(b.Text); err != nil {\n", "	if err := script.Check(nil); false {\n"),
     ],
 }

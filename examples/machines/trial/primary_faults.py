@@ -104,7 +104,7 @@ class PrimaryFaults(Failing):
             self.begins_next("after a long one")
 
     def add_entry(self, number: int, text: str) -> int:
-        """Writes an entry in the place of a primary, and returns its number. What one of them sent before it was killed may come first."""
+        """Writes an entry as a primary does, and returns its number. What one of them sent before it was killed may come first."""
 
         def is_written() -> bool:
             key = f"script/{number:012d}"

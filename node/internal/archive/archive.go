@@ -28,9 +28,9 @@ var sync = (*os.File).Sync
 // tryAfter is after how long archives that wait are looked at again.
 const tryAfter = 2 * time.Second
 
-// A Keeper archives the epochs that have ended.
-type Keeper struct {
-	// Engine is of the keeper alone.
+// An Archiver archives the epochs that have ended.
+type Archiver struct {
+	// Engine is of the archiver alone.
 	Engine *engine.Engine
 	Folder string
 	// Host names the disk of the folder. It is no more than a file name.
@@ -46,7 +46,7 @@ type Keeper struct {
 }
 
 // Waiting is how many epochs have ended and are still in the engine, as of the last look.
-func (k *Keeper) Waiting() int64 { return k.waiting.Load() }
+func (a *Archiver) Waiting() int64 { return a.waiting.Load() }
 
 // NameOf is the name of the file of an epoch.
 func NameOf(epoch int64) string { return fmt.Sprintf("epoch-%d.ordup", epoch) }
@@ -56,12 +56,12 @@ func NameOf(epoch int64) string { return fmt.Sprintf("epoch-%d.ordup", epoch) }
 func MakeFolder(folder string) error { return os.MkdirAll(folder, 0o750) }
 
 // Run archives what has ended, and what ends, until the context ends. Then it closes its engine.
-func (k *Keeper) Run(ctx context.Context) {
-	defer k.Engine.Close()
+func (a *Archiver) Run(ctx context.Context) {
+	defer a.Engine.Close()
 	for ctx.Err() == nil {
-		waits, err := k.Pass(ctx)
+		waits, err := a.Pass(ctx)
 		if err != nil && ctx.Err() == nil {
-			k.Log.Warn("archive", "why", err)
+			a.Log.Warn("archive", "why", err)
 		}
 		var again <-chan time.Time
 		if waits || err != nil {
@@ -69,7 +69,7 @@ func (k *Keeper) Run(ctx context.Context) {
 		}
 		select {
 		case <-ctx.Done():
-		case <-k.Ended:
+		case <-a.Ended:
 		case <-again:
 		}
 	}
@@ -77,29 +77,29 @@ func (k *Keeper) Run(ctx context.Context) {
 
 // Pass archives each epoch that has ended and is still in the engine, and takes it out of there once enough hosts have it. It returns
 // whether one of them waits for another host.
-func (k *Keeper) Pass(ctx context.Context) (waits bool, err error) {
-	last, end, err := k.Engine.Epoch(ctx)
+func (a *Archiver) Pass(ctx context.Context) (waits bool, err error) {
+	last, end, err := a.Engine.Epoch(ctx)
 	if err != nil {
 		return false, fmt.Errorf("read the last epoch: %w", err)
 	}
-	from, err := k.Engine.First(ctx)
+	from, err := a.Engine.First(ctx)
 	if err != nil {
 		return false, fmt.Errorf("read the first entry: %w", err)
 	}
 	if from == 0 {
 		return false, nil
 	}
-	for own := range k.looked {
+	for own := range a.looked {
 		if own.Before <= from {
-			delete(k.looked, own)
+			delete(a.looked, own)
 		}
 	}
 	left := int64(0)
 	for from < end {
-		before, removed, err := k.passOne(ctx, from, end)
+		before, removed, err := a.passOne(ctx, from, end)
 		if err != nil {
 			if !engine.IsAway(err) {
-				k.waiting.Store(left + k.stuck(ctx, from, last))
+				a.waiting.Store(left + a.stuck(ctx, from, last))
 			}
 			return false, fmt.Errorf("archive the epoch from the entry %d on: %w", from, err)
 		}
@@ -108,28 +108,28 @@ func (k *Keeper) Pass(ctx context.Context) (waits bool, err error) {
 			left++
 		}
 	}
-	k.waiting.Store(left)
+	a.waiting.Store(left)
 	return left > 0, nil
 }
 
 // passOne does it for the epoch that begins with an entry. It returns the first entry behind the epoch, and whether it left the engine.
-func (k *Keeper) passOne(ctx context.Context, from, end int64) (before int64, removed bool, err error) {
-	archives, err := k.Engine.Archives(ctx)
+func (a *Archiver) passOne(ctx context.Context, from, end int64) (before int64, removed bool, err error) {
+	archives, err := a.Engine.Archives(ctx)
 	if err != nil {
 		return 0, false, err
 	}
-	epoch, own, err := k.own(ctx, archives, from, end)
+	epoch, own, err := a.own(ctx, archives, from, end)
 	if err != nil {
 		return 0, false, err
 	}
-	removed, err = k.remove(ctx, epoch, own)
+	removed, err = a.remove(ctx, epoch, own)
 	return own.Before, removed, err
 }
 
 // stuck is how many epochs before the last one wait behind an entry whose epoch cannot be archived, as far as the entry tells.
-func (k *Keeper) stuck(ctx context.Context, from, last int64) int64 {
+func (a *Archiver) stuck(ctx context.Context, from, last int64) int64 {
 	epoch := int64(0)
-	text, _, _ := k.Engine.Entry(ctx, from)
+	text, _, _ := a.Engine.Entry(ctx, from)
 	count, _ := fmt.Sscanf(string(text), "ordup-node 1 epoch %d ", &epoch)
 	if count != 1 || epoch < 1 || epoch >= last {
 		return 1
@@ -138,39 +138,39 @@ func (k *Keeper) stuck(ctx context.Context, from, last int64) int64 {
 }
 
 // own is the archive of this host that begins with an entry. It is written, if it is not there yet.
-func (k *Keeper) own(ctx context.Context, archives map[int64]map[string]engine.Archive, from, end int64) (int64, engine.Archive, error) {
+func (a *Archiver) own(ctx context.Context, archives map[int64]map[string]engine.Archive, from, end int64) (int64, engine.Archive, error) {
 	for epoch, hosts := range archives {
-		if own, isThere := hosts[k.Host]; isThere && own.From == from && own.Before <= end && from < own.Before {
-			if k.looked[own] {
+		if own, isThere := hosts[a.Host]; isThere && own.From == from && own.Before <= end && from < own.Before {
+			if a.looked[own] {
 				return epoch, own, nil
 			}
-			if digest, err := digestOf(filepath.Join(k.Folder, NameOf(epoch))); err == nil && digest == own.Digest {
-				k.looks(own)
+			if digest, err := digestOf(filepath.Join(a.Folder, NameOf(epoch))); err == nil && digest == own.Digest {
+				a.looks(own)
 				return epoch, own, nil
 			}
 		}
 	}
-	epoch, own, err := k.write(ctx, from, end)
+	epoch, own, err := a.write(ctx, from, end)
 	if err == nil {
-		err = k.Engine.PutArchive(ctx, epoch, k.Host, own)
+		err = a.Engine.PutArchive(ctx, epoch, a.Host, own)
 	}
 	if err == nil {
-		k.looks(own)
-		k.Log.Info("archived", "epoch", epoch, "entries", own.Before-own.From, "digest", own.Digest[:16])
+		a.looks(own)
+		a.Log.Info("archived", "epoch", epoch, "entries", own.Before-own.From, "digest", own.Digest[:16])
 	}
 	return epoch, own, err
 }
 
-func (k *Keeper) looks(own engine.Archive) {
-	if k.looked == nil {
-		k.looked = map[engine.Archive]bool{}
+func (a *Archiver) looks(own engine.Archive) {
+	if a.looked == nil {
+		a.looked = map[engine.Archive]bool{}
 	}
-	k.looked[own] = true
+	a.looked[own] = true
 }
 
 // remove takes an epoch out of the engine, if enough hosts have the same archive as this one.
-func (k *Keeper) remove(ctx context.Context, epoch int64, own engine.Archive) (bool, error) {
-	archives, err := k.Engine.Archives(ctx)
+func (a *Archiver) remove(ctx context.Context, epoch int64, own engine.Archive) (bool, error) {
+	archives, err := a.Engine.Archives(ctx)
 	if err != nil {
 		return false, err
 	}
@@ -179,32 +179,32 @@ func (k *Keeper) remove(ctx context.Context, epoch int64, own engine.Archive) (b
 		if archive == own {
 			hosts = append(hosts, host)
 		} else {
-			k.Log.Warn("archives-differ", "epoch", epoch, "host", host, "own", own.Digest, "other", archive.Digest)
+			a.Log.Warn("archives-differ", "epoch", epoch, "host", host, "own", own.Digest, "other", archive.Digest)
 		}
 	}
-	if len(hosts) < k.Copies {
+	if len(hosts) < a.Copies {
 		return false, nil
 	}
 	sort.Strings(hosts)
-	removed, err := k.Engine.RemoveEpoch(ctx, epoch, hosts, own)
+	removed, err := a.Engine.RemoveEpoch(ctx, epoch, hosts, own)
 	if removed {
-		k.Log.Info("removed", "epoch", epoch, "hosts", len(hosts))
+		a.Log.Info("removed", "epoch", epoch, "hosts", len(hosts))
 	}
 	return removed, err
 }
 
 // write writes the archive of the epoch that begins with an entry, whole or not at all.
-func (k *Keeper) write(ctx context.Context, from, end int64) (epoch int64, own engine.Archive, err error) {
-	if err = MakeFolder(k.Folder); err != nil {
+func (a *Archiver) write(ctx context.Context, from, end int64) (epoch int64, own engine.Archive, err error) {
+	if err = MakeFolder(a.Folder); err != nil {
 		return 0, own, err
 	}
-	part, err := os.CreateTemp(k.Folder, "epoch-*.part")
+	part, err := os.CreateTemp(a.Folder, "epoch-*.part")
 	if err != nil {
 		return 0, own, err
 	}
 	defer os.Remove(part.Name())
 	defer part.Close()
-	epoch, own, err = k.copy(ctx, part, from, end)
+	epoch, own, err = a.copy(ctx, part, from, end)
 	if err != nil {
 		return 0, own, err
 	}
@@ -214,18 +214,18 @@ func (k *Keeper) write(ctx context.Context, from, end int64) (epoch int64, own e
 	if err = os.Chmod(part.Name(), 0o640); err != nil {
 		return 0, own, err
 	}
-	return epoch, own, k.name(part.Name(), filepath.Join(k.Folder, NameOf(epoch)), own.Digest)
+	return epoch, own, a.name(part.Name(), filepath.Join(a.Folder, NameOf(epoch)), own.Digest)
 }
 
 // name gives a file that is on the disk its name, and has that on the disk too. Another file of this name is not written over.
-func (k *Keeper) name(part, name, digest string) error {
+func (a *Archiver) name(part, name, digest string) error {
 	if before, err := digestOf(name); err == nil && before != digest {
 		return fmt.Errorf("%s is there already, and of another script: move it away", name)
 	}
 	if err := os.Rename(part, name); err != nil {
 		return err
 	}
-	folder, err := os.Open(k.Folder)
+	folder, err := os.Open(a.Folder)
 	if err != nil {
 		return err
 	}
@@ -234,12 +234,12 @@ func (k *Keeper) name(part, name, digest string) error {
 }
 
 // copy copies the entries of one epoch, all of one revision.
-func (k *Keeper) copy(ctx context.Context, to io.Writer, from, end int64) (epoch int64, own engine.Archive, err error) {
+func (a *Archiver) copy(ctx context.Context, to io.Writer, from, end int64) (epoch int64, own engine.Archive, err error) {
 	sum, revision, next := sha256.New(), int64(0), from
 	lines := bufio.NewWriterSize(io.MultiWriter(to, sum), 1<<16)
 	var raws []engine.Raw
 	for isSame := true; isSame && next < end; {
-		raws, _, revision, err = k.Engine.Entries(ctx, next, revision)
+		raws, _, revision, err = a.Engine.Entries(ctx, next, revision)
 		if err != nil {
 			return 0, own, err
 		}

@@ -31,19 +31,19 @@ func write(t *testing.T, to *engine.Engine, epochs ...int64) {
 	}
 }
 
-func pass(t *testing.T, keeper *archive.Keeper, wants int64) {
+func pass(t *testing.T, archiver *archive.Archiver, wants int64) {
 	t.Helper()
-	waits, err := keeper.Pass(context.Background())
-	if err != nil || waits != (wants > 0) || keeper.Waiting() != wants {
-		t.Errorf("%v, %v, %d", waits, err, keeper.Waiting())
+	waits, err := archiver.Pass(context.Background())
+	if err != nil || waits != (wants > 0) || archiver.Waiting() != wants {
+		t.Errorf("%v, %v, %d", waits, err, archiver.Waiting())
 	}
 }
 
 func TestAnEpochStaysUntilEnoughHostsHaveIt(t *testing.T) {
 	members := etcdtest.Start(t, 1)
 	own := members.Engine()
-	keep := func(host string) *archive.Keeper {
-		return &archive.Keeper{Engine: members.Engine(), Folder: filepath.Join(t.TempDir(), host), Host: host, Copies: 2}
+	keep := func(host string) *archive.Archiver {
+		return &archive.Archiver{Engine: members.Engine(), Folder: filepath.Join(t.TempDir(), host), Host: host, Copies: 2}
 	}
 	one, other := keep("p1"), keep("p2")
 	pass(t, one, 0)
@@ -51,7 +51,7 @@ func TestAnEpochStaysUntilEnoughHostsHaveIt(t *testing.T) {
 	pass(t, one, 2)
 	pass(t, one, 2)
 	// A file that was changed on the disk is written again by who starts anew.
-	again := &archive.Keeper{Engine: own, Folder: one.Folder, Host: "p1", Copies: 2}
+	again := &archive.Archiver{Engine: own, Folder: one.Folder, Host: "p1", Copies: 2}
 	name := filepath.Join(one.Folder, archive.NameOf(1))
 	if err := os.WriteFile(name, []byte("other"), 0o644); err != nil {
 		t.Fatal(err)
@@ -66,23 +66,23 @@ func TestAnEpochStaysUntilEnoughHostsHaveIt(t *testing.T) {
 	pass(t, other, 0)
 	pass(t, again, 0)
 	if again.Looked() > 0 {
-		t.Error("a keeper remembers what has left the engine")
+		t.Error("an archiver remembers what has left the engine")
 	}
 	first, err := own.First(context.Background())
 	archives, failure := own.Archives(context.Background())
 	if first != 6 || err != nil || len(archives) != 0 || failure != nil {
 		t.Error(first, err, archives, failure)
 	}
-	for _, keeper := range []*archive.Keeper{one, other} {
+	for _, archiver := range []*archive.Archiver{one, other} {
 		for epoch, wants := range map[int64]int{1: 2, 2: 3} {
-			text, err := os.ReadFile(filepath.Join(keeper.Folder, archive.NameOf(epoch)))
+			text, err := os.ReadFile(filepath.Join(archiver.Folder, archive.NameOf(epoch)))
 			if err != nil || strings.Count(string(text), "\npropose add:tea:1\n") != wants {
 				t.Errorf("%s, %v", text, err)
 			}
-			isFor(t, filepath.Join(keeper.Folder, archive.NameOf(epoch)), 0o640)
+			isFor(t, filepath.Join(archiver.Folder, archive.NameOf(epoch)), 0o640)
 		}
-		isFor(t, keeper.Folder, 0o750)
-		files, _ := os.ReadDir(keeper.Folder)
+		isFor(t, archiver.Folder, 0o750)
+		files, _ := os.ReadDir(archiver.Folder)
 		if len(files) != 2 {
 			t.Error(files)
 		}
@@ -120,8 +120,8 @@ func TestAnArchiveIsOnTheDiskFirst(t *testing.T) {
 		return nil
 	})()
 	for _, fails = range []string{"file", "names of an archive", ""} {
-		keeper := &archive.Keeper{Engine: own, Folder: folder, Host: "p1", Copies: 2}
-		waits, err := keeper.Pass(context.Background())
+		archiver := &archive.Archiver{Engine: own, Folder: folder, Host: "p1", Copies: 2}
+		waits, err := archiver.Pass(context.Background())
 		archives, _ := own.Archives(context.Background())
 		if isWell := fails == ""; waits != isWell || (err == nil) != isWell || len(archives) == 1 != isWell {
 			t.Errorf("%q: %v, %v, %v", fails, waits, err, archives)
@@ -138,15 +138,15 @@ func TestAnEpochThatCannotBeArchivedIsCounted(t *testing.T) {
 	members := etcdtest.Start(t, 1)
 	own := members.Engine()
 	write(t, own, 1, 1, 2, 3, 4)
-	keeper := &archive.Keeper{Engine: own, Folder: t.TempDir(), Host: "p1", Copies: 1}
+	archiver := &archive.Archiver{Engine: own, Folder: t.TempDir(), Host: "p1", Copies: 1}
 	for _, row := range []struct {
 		number int
 		wants  int64
 	}{{2, 3}, {1, 1}} {
 		t.Run(fmt.Sprint("the entry ", row.number), func(t *testing.T) {
 			members.Put(fmt.Sprintf("script/%012d", row.number), "by hand")
-			if _, err := keeper.Pass(context.Background()); err == nil || keeper.Waiting() != row.wants {
-				t.Error(row, err, keeper.Waiting())
+			if _, err := archiver.Pass(context.Background()); err == nil || archiver.Waiting() != row.wants {
+				t.Error(row, err, archiver.Waiting())
 			}
 		})
 	}
@@ -156,11 +156,11 @@ func TestArchivesThatDiffer(t *testing.T) {
 	members := etcdtest.Start(t, 1)
 	own := members.Engine()
 	write(t, own, 1, 1, 2)
-	keeper := &archive.Keeper{Engine: own, Folder: t.TempDir(), Host: "p1", Copies: 2}
+	archiver := &archive.Archiver{Engine: own, Folder: t.TempDir(), Host: "p1", Copies: 2}
 	for _, value := range []string{"0123 1 3", "\xff", "x 1 y", ""} {
 		members.Put("archive/000000000001/p2", value)
 		members.Put("archive/\xff/p2", value)
-		pass(t, keeper, 1)
+		pass(t, archiver, 1)
 	}
 }
 
@@ -172,12 +172,12 @@ func TestAFolderThatCannotBeUsed(t *testing.T) {
 	if err := os.WriteFile(name, nil, 0o644); err != nil {
 		t.Fatal(err)
 	}
-	keeper := &archive.Keeper{Engine: own, Folder: name, Host: "p1", Copies: 1}
-	if _, err := keeper.Pass(context.Background()); err == nil {
+	archiver := &archive.Archiver{Engine: own, Folder: name, Host: "p1", Copies: 1}
+	if _, err := archiver.Pass(context.Background()); err == nil {
 		t.Error("a file is a folder")
 	}
 	if err := os.Remove(name); err != nil {
 		t.Fatal(err)
 	}
-	pass(t, keeper, 0)
+	pass(t, archiver, 0)
 }

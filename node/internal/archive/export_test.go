@@ -9,5 +9,5 @@ func SyncBy(other func(*os.File) error) (undo func()) {
 	return func() { sync = before }
 }
 
-// Looked is how many archives the keeper knows to be as it says.
-func (k *Keeper) Looked() int { return len(k.looked) }
+// Looked is how many archives the archiver knows to be as it says.
+func (a *Archiver) Looked() int { return len(a.looked) }

@@ -55,13 +55,13 @@ func (e *Engine) PutArchive(ctx context.Context, epoch int64, host string, archi
 // RemoveEpoch takes the entries of an epoch out of the engine, where these hosts have this archive, with the keys of its archives and
 // what the engine keeps of the past. The epoch has ended. It returns whether it did.
 func (e *Engine) RemoveEpoch(ctx context.Context, epoch int64, hosts []string, archive Archive) (bool, error) {
-	holds := []clientv3.Cmp{}
+	compares := []clientv3.Cmp{}
 	for _, host := range hosts {
-		holds = append(holds, clientv3.Compare(clientv3.Value(archiveKey(epoch, host)), "=", archive.value()))
+		compares = append(compares, clientv3.Compare(clientv3.Value(archiveKey(epoch, host)), "=", archive.value()))
 	}
 	var done *clientv3.TxnResponse
 	err := e.call(ctx, CallTime, func(ctx context.Context, client *clientv3.Client) (err error) {
-		done, err = client.Txn(ctx).If(holds...).Then(
+		done, err = client.Txn(ctx).If(compares...).Then(
 			clientv3.OpDelete(entryKey(archive.From), clientv3.WithRange(entryKey(archive.Before))),
 			clientv3.OpDelete(archiveKey(epoch, ""), clientv3.WithPrefix())).Commit()
 		return err

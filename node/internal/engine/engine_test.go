@@ -216,7 +216,7 @@ func TestOneProcessHasALease(t *testing.T) {
 		go func() { lease.Run(ctx); close(done) }()
 		return lease, cancel, done
 	}
-	holds := func(lease *engine.Lease, most time.Duration) bool {
+	relies := func(lease *engine.Lease, most time.Duration) bool {
 		for until := time.Now().Add(most); time.Now().Before(until); time.Sleep(10 * time.Millisecond) {
 			if lease.Lives(1) {
 				return true
@@ -225,15 +225,15 @@ func TestOneProcessHasALease(t *testing.T) {
 		return false
 	}
 	one, stopOne, doneOne := run("one")
-	is(t, true, holds(one, 5*time.Second))
+	is(t, true, relies(one, 5*time.Second))
 	other, stopOther, doneOther := run("other")
-	is(t, false, holds(other, time.Second))
-	held, err := own.Holds(within(t, 5*time.Second), "far")
-	is(t, []any{1, true, "site/far/east", nil}, []any{len(held), held[0].IsLeased, held[0].Key, err})
+	is(t, false, relies(other, time.Second))
+	keys, err := own.SiteKeys(within(t, 5*time.Second), "far")
+	is(t, []any{1, true, "site/far/east", nil}, []any{len(keys), keys[0].IsLeased, keys[0].Name, err})
 	stopOne()
 	<-doneOne
 	is(t, false, one.Lives(1))
-	is(t, true, holds(other, 2*time.Second)) // It was given back, and need not run out.
+	is(t, true, relies(other, 2*time.Second)) // It was given back, and need not run out.
 	// A key that is taken away by hand is lost. Then the process takes it again, in another term.
 	if _, err := members.Client().Delete(within(t, 5*time.Second), engine.SiteKey("far", "east")); err != nil {
 		t.Fatal(err)
@@ -243,23 +243,23 @@ func TestOneProcessHasALease(t *testing.T) {
 	is(t, []bool{false, true}, []bool{other.Lives(1), other.Lives(2)})
 	stopOther()
 	<-doneOther
-	held, err = own.Holds(within(t, 5*time.Second), "far")
-	is(t, []any{0, nil}, []any{len(held), err})
+	keys, err = own.SiteKeys(within(t, 5*time.Second), "far")
+	is(t, []any{0, nil}, []any{len(keys), err})
 }
 
-func TestAHoldIsRemovedAsItIs(t *testing.T) {
+func TestAKeyIsRemovedAsItIs(t *testing.T) {
 	members := etcdtest.Start(t, 1)
 	own, ctx := members.Engine(), within(t, 20*time.Second)
 	for _, key := range []string{"site/far/\xff", "site/far/", "site/far0", "site/fas/a", "site/fa/r"} {
 		members.Put(key, "by hand")
 	}
-	holds, err := own.Holds(ctx, "far")
-	is(t, []any{2, "site/far/", false, "site/far/\xff", nil}, []any{len(holds), holds[0].Key, holds[0].IsLeased, holds[1].Key, err})
+	keys, err := own.SiteKeys(ctx, "far")
+	is(t, []any{2, "site/far/", false, "site/far/\xff", nil}, []any{len(keys), keys[0].Name, keys[0].IsLeased, keys[1].Name, err})
 	members.Put("site/far/", "again")
-	for at, hold := range holds {
-		removed, err := own.RemoveHold(ctx, hold)
+	for at, key := range keys {
+		removed, err := own.RemoveKey(ctx, key)
 		is(t, []any{at == 1, nil}, []any{removed, err})
 	}
-	holds, err = own.Holds(ctx, "far")
-	is(t, []any{1, nil}, []any{len(holds), err})
+	keys, err = own.SiteKeys(ctx, "far")
+	is(t, []any{1, nil}, []any{len(keys), err})
 }

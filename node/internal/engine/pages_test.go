@@ -10,13 +10,13 @@ func TestPagesGrowAndShrink(t *testing.T) {
 	if count, most := pages.next(); count != 4 || most != CallTime {
 		t.Error(count, most)
 	}
-	for turn := 0; turn < 20; turn++ {
+	for count := 0; count < 20; count++ {
 		pages.came(10, 10*25_000, time.Millisecond)
 	}
 	if count, _ := pages.next(); count != mostPage/25_001 {
 		t.Error(count)
 	}
-	for turn := 0; turn < 20; turn++ {
+	for count := 0; count < 20; count++ {
 		pages.failed()
 	}
 	if count, most := pages.next(); count != 1 || most != mostTime {
@@ -27,7 +27,7 @@ func TestPagesGrowAndShrink(t *testing.T) {
 		t.Error(count, most)
 	}
 	pages.came(0, 0, time.Millisecond)
-	for turn := 0; turn < 20; turn++ {
+	for count := 0; count < 20; count++ {
 		pages.came(1000, 1000, time.Millisecond)
 	}
 	if count, most := pages.next(); count != mostEntries || most != CallTime {

@@ -26,19 +26,19 @@ type Write struct {
 // ServedError or a MissingError. After an AwayError that is not known, and Write may be called again.
 func (e *Engine) Write(ctx context.Context, write *Write) error {
 	key := entryKey(write.Number)
-	holds := []clientv3.Cmp{clientv3.Compare(clientv3.CreateRevision(key), "=", 0)}
+	compares := []clientv3.Cmp{clientv3.Compare(clientv3.CreateRevision(key), "=", 0)}
 	if write.Number > 1 {
-		holds = append(holds, clientv3.Compare(clientv3.CreateRevision(entryKey(write.Number-1)), ">", 0))
+		compares = append(compares, clientv3.Compare(clientv3.CreateRevision(entryKey(write.Number-1)), ">", 0))
 	} else {
-		holds = append(holds, clientv3.Compare(clientv3.CreateRevision(epochKey), "=", 0))
+		compares = append(compares, clientv3.Compare(clientv3.CreateRevision(epochKey), "=", 0))
 	}
 	if write.Last > 0 {
 		// The entry before may be there, though all of the epoch of this one were removed.
-		holds = append(holds, clientv3.Compare(clientv3.Value(epochKey), "=", epochValue(write.Last, write.Since)))
+		compares = append(compares, clientv3.Compare(clientv3.Value(epochKey), "=", epochValue(write.Last, write.Since)))
 	}
 	for _, fleet := range write.Absent {
 		from, to := keysOf(fleet)
-		holds = append(holds, clientv3.Compare(clientv3.CreateRevision(from), "=", 0).WithRange(to))
+		compares = append(compares, clientv3.Compare(clientv3.CreateRevision(from), "=", 0).WithRange(to))
 	}
 	puts := []clientv3.Op{clientv3.OpPut(key, string(write.Text))}
 	if write.First > 0 {
@@ -47,7 +47,7 @@ func (e *Engine) Write(ctx context.Context, write *Write) error {
 	looks := []clientv3.Op{clientv3.OpGet(key), clientv3.OpGet(epochKey), clientv3.OpGet(entryKey(write.Number-1), clientv3.WithKeysOnly())}
 	var done *clientv3.TxnResponse
 	err := e.call(ctx, CallTime, func(ctx context.Context, client *clientv3.Client) (err error) {
-		done, err = client.Txn(ctx).If(holds...).Then(puts...).Else(looks...).Commit()
+		done, err = client.Txn(ctx).If(compares...).Then(puts...).Else(looks...).Commit()
 		return err
 	})
 	if err != nil || done.Succeeded {

@@ -29,7 +29,7 @@ func aged(t *testing.T) *world {
 }
 
 // Whoever has run the script decides alike who is forgotten: this core, and one that begins with the last epoch.
-func (w *world) remembers(kind VerdictKind) {
+func (w *world) remembers(kind ReplyKind) {
 	w.t.Helper()
 	other := w.replay(config("p2"))
 	is(w.t, fmt.Sprint(w.core.clients), fmt.Sprint(other.clients))
@@ -42,7 +42,7 @@ func TestAClientIsForgottenOnceItsEpochsAndItsSecondsAreOver(t *testing.T) {
 		name   string
 		epochs int
 		after  time.Duration
-		kind   VerdictKind
+		kind   ReplyKind
 	}{
 		{"many epochs in some seconds", 11, 53 * time.Second, Answered},
 		{"one epoch after a long time", 1, 10000 * time.Second, Answered},
@@ -79,9 +79,9 @@ func TestATakeOverForgetsNobody(t *testing.T) {
 		if writer == "p2" {
 			world.core = world.replay(config(writer))
 		}
-		turn := world.core.TakeOver()
-		is(t, nil, world.core.Replay(turn.Number, turn.Entry()))
-		world.keep(turn)
+		batch := world.core.TakeOver()
+		is(t, nil, world.core.Replay(batch.Number, batch.Entry()))
+		world.keep(batch)
 		world.work()
 		world.now += 200 * time.Second
 		world.passEpoch()

@@ -65,7 +65,7 @@ func (p *plain) NextDeclarations() (string, error) { return "", nil }
 func (p *plain) Record(string) (string, error)     { return "", nil }
 func (p *plain) Close() error                      { return nil }
 
-// written gives the entries of so many updates, a thousand a turn, with four sites.
+// written gives the entries of so many updates, a thousand a batch, with four sites.
 func written(b *testing.B, updates int) []*script.Entry {
 	config := Config{Open: func() (store.Store, error) { return &plain{places: map[string]int64{}}, nil }, Writer: "p1", Versions: []string{"1"}}
 	begin := &script.Entry{Epoch: 1, Ordup: "1", Writer: "p1", Steps: beginning(script.Settings{Every: MostEvery, Remembers: 1, Origin: "0", Ordup: "1",
@@ -92,18 +92,18 @@ func written(b *testing.B, updates int) []*script.Entry {
 		if _, err := core.Work(time.Hour); err != nil {
 			b.Fatal(err)
 		}
-		turn, err := core.Seal(time.Hour)
+		batch, err := core.Seal(time.Hour)
 		if err != nil {
 			b.Fatal(err)
 		}
-		core.Written(turn.Number)
-		entries = append(entries, turn.Entry())
+		core.Written(batch.Number)
+		entries = append(entries, batch.Entry())
 	}
 	return entries
 }
 
-// BenchmarkTurns is an update from its request to the text of its entry.
-func BenchmarkTurns(b *testing.B) {
+// BenchmarkBatches is an update from its request to the text of its entry.
+func BenchmarkBatches(b *testing.B) {
 	b.ReportAllocs()
 	written(b, b.N)
 }
@@ -148,12 +148,12 @@ func BenchmarkCarry(b *testing.B) {
 	b.ResetTimer()
 	entries, bytes := 0, 0
 	for carried := 0; carried < b.N; entries++ {
-		turn, err := core.Seal(time.Hour)
+		batch, err := core.Seal(time.Hour)
 		if err != nil {
 			b.Fatal(err)
 		}
-		core.Written(turn.Number)
-		carried, bytes = carried+len(turn.Entry().Steps), bytes+len(turn.Text)
+		core.Written(batch.Number)
+		carried, bytes = carried+len(batch.Entry().Steps), bytes+len(batch.Text)
 	}
 	b.ReportMetric(float64(entries)*300_000/float64(b.N), "entries")
 	b.ReportMetric(float64(bytes)/float64(b.N), "bytes/client")

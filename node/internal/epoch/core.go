@@ -20,11 +20,11 @@ type Config struct {
 	Versions []string
 	// Ended, if it is there, is told of each epoch that ends in this core, with the forced rounds of its sites.
 	Ended func(epoch int64, rounds map[string]int64)
-	// What the steps of a turn count at most. Tests make it small.
+	// What the steps of a batch count at most. Tests make it small.
 	room script.Room
 }
 
-// A Core is what the entries of a script come to, up to one of them, and an open turn after them.
+// A Core is what the entries of a script come to, up to one of them, and an open batch after them.
 type Core struct {
 	config Config
 	// How many entries were run or sealed, and how many of them are known to be in the script.
@@ -49,23 +49,23 @@ type Core struct {
 	// The entry whose steps are run, and what was decided in it.
 	running int64
 	decided []script.Step
-	turn    openTurn
+	batch   openBatch
 	// When the last entry was sealed.
 	sealed  time.Duration
 	lines   []byte
 	failure error
 }
 
-// An openTurn is what was run and not sealed yet.
-type openTurn struct {
+// An openBatch is what was run and not sealed yet.
+type openBatch struct {
 	steps  []script.Step
 	bytes  int
 	room   script.Room
 	absent []string
 }
 
-// most is as much of a count as the turn has room for.
-func (o *openTurn) most(count int64) int64 {
+// most is as much of a count as the batch has room for.
+func (o *openBatch) most(count int64) int64 {
 	if room := int64(o.room); room < count {
 		return room
 	}
@@ -123,9 +123,9 @@ func Parse(number int64, text []byte) (*script.Entry, error) {
 // New gives a core before the entry of this number, which is the first one of an epoch.
 func New(config Config, first int64) *Core {
 	if config.room == 0 {
-		config.room = turnCounts
+		config.room = batchCounts
 	}
-	return &Core{config: config, entries: first - 1, written: first - 1, clients: clients{}, turn: openTurn{room: config.room}}
+	return &Core{config: config, entries: first - 1, written: first - 1, clients: clients{}, batch: openBatch{room: config.room}}
 }
 
 // Close gives the store back.

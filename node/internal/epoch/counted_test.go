@@ -50,7 +50,7 @@ func (w *world) leave(sites ...string) {
 	w.keep(w.seal())
 }
 
-// However much comes while one turn is on its way, what is written is read by all.
+// However much comes while one batch is on its way, what is written is read by all.
 func TestNoEntryCountsMoreThanItsReaderTakes(t *testing.T) {
 	const updates = 520_000 // Of two sites that is more than an entry counts.
 	world := grown(t, updates, "a", "b", "c", "d", "e", "f")
@@ -93,7 +93,7 @@ func TestNoEntryCountsMoreThanItsReaderTakes(t *testing.T) {
 	}
 }
 
-// workLong is as many wakes as come while a turn is on its way for some time.
+// workLong is as many wakes as come while a batch is on its way for some time.
 func (w *world) workLong() {
 	for wakes := 0; wakes < 60; wakes++ {
 		w.work()
@@ -139,9 +139,9 @@ func TestWhatNobodyReadsIsNotWritten(t *testing.T) {
 					steps[at] = script.Step{Kind: script.Leave, Site: "x"}
 				}
 			}
-			world.core.turn.steps = steps
-			turn, err := world.core.Seal(world.now)
-			is(t, []any{true, exit.Gap}, []any{turn == nil, exit.Of(err)})
+			world.core.batch.steps = steps
+			batch, err := world.core.Seal(world.now)
+			is(t, []any{true, exit.Gap}, []any{batch == nil, exit.Of(err)})
 			is(t, err, world.core.Failure())
 		})
 	}

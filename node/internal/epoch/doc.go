@@ -7,20 +7,20 @@
 //
 // At the end of the script a primary may write:
 //
-//	verdicts, err := core.Ask(requests, now)   what clients ask goes into the open turn, or has its answer, or waits
+//	replies, err := core.Ask(requests, now)   what clients ask goes into the open batch, or has its answer, or waits
 //	err = core.Tell(place, now)                what a site has shown
 //	again, err := core.Work(now)               adds what sites told, and asks for acknowledgements
-//	turn, err := core.Seal(now)                the open turn as an entry, or nil where there is nothing to write
-//	core.Written(turn.Number)                  the entry is in the script, so its answers may be told
+//	batch, err := core.Seal(now)                the open batch as an entry, or nil where there is nothing to write
+//	core.Written(batch.Number)                  the entry is in the script, so its answers may be told
 //
-// A turn is run as its steps come, before it is written. The open turn takes requests while the turn before is on its way. Nothing is told
+// A batch is run as its steps come, before it is written. The open batch takes requests while the batch before is on its way. Nothing is told
 // for good, an answer or a refusal, before the entry that it rests on is written. Where an entry cannot be written, the core is dropped,
 // and a new one runs the script.
 //
 // Who runs the script does not believe its writer. Each number of a client is greater than its last one. A site tells no more than there
 // is, and is gone only after it was taken out. An epoch ends because of a wish or of so many requests, once all is acknowledged and each site
 // has told the last place or is gone, and the next one begins with the values of that end. A process without
-// a core, as a site, has a Judge for that. A writer gives out no turn that its own program does not read.
+// a core, as a site, has a Judge for that. A writer gives out no batch that its own program does not read.
 //
 // # The clients
 //

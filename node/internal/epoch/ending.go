@@ -38,7 +38,7 @@ type Wish struct {
 var (
 	// ErrOtherWish says that another wish for this epoch was taken.
 	ErrOtherWish = errors.New("somebody has asked already, and the epoch has not ended yet")
-	// ErrNotNow says that what decides of the wish is not written yet, or that the turn is full: ask again in the next turn.
+	// ErrNotNow says that what decides of the wish is not written yet, or that the batch is full: ask again in the next batch.
 	ErrNotNow = errors.New("it is not decided yet what becomes of the wish")
 	// ErrNotYet says that the epoch which is to end has not begun.
 	ErrNotYet = errors.New("the epoch that is to end has not begun")
@@ -106,27 +106,27 @@ func checkSettings(settings *script.Settings) error {
 // DigestOf is what a script has of the declarations that an operator gave.
 func DigestOf(declarations []string) string { return script.DigestOf(strings.Join(declarations, "\n")) }
 
-// FirstTurn is the entry that begins an empty script, which keeps with what it began.
-func FirstTurn(config Config, settings script.Settings, declarations []string) (*Turn, error) {
+// FirstBatch is the entry that begins an empty script, which keeps with what it began.
+func FirstBatch(config Config, settings script.Settings, declarations []string) (*Batch, error) {
 	if err := Check(config.Open, &settings, declarations); err != nil {
 		return nil, err
 	}
 	settings.Began = script.Began{Every: settings.Every, Remembers: settings.Remembers, Seconds: settings.Seconds, Origin: settings.Origin}
-	turn := &Turn{Number: 1, Epoch: 1, First: 1}
-	turn.entry = &script.Entry{Epoch: 1, Ordup: settings.Ordup, Writer: config.Writer, Steps: beginning(settings, declarations)}
-	return turn, turn.seal()
+	batch := &Batch{Number: 1, Epoch: 1, First: 1}
+	batch.entry = &script.Entry{Epoch: 1, Ordup: settings.Ordup, Writer: config.Writer, Steps: beginning(settings, declarations)}
+	return batch, batch.seal()
 }
 
 // TakeOver is an entry by which the writer takes over. It is not run: Replay it once it is written.
-func (c *Core) TakeOver() *Turn {
-	turn := &Turn{Number: c.entries + 1, Last: c.epoch, Since: c.first}
-	turn.entry = &script.Entry{Epoch: c.entryEpoch(), Ordup: c.entryVersion(), Writer: c.config.Writer}
-	turn.Text = turn.entry.Text()
-	return turn
+func (c *Core) TakeOver() *Batch {
+	batch := &Batch{Number: c.entries + 1, Last: c.epoch, Since: c.first}
+	batch.entry = &script.Entry{Epoch: c.entryEpoch(), Ordup: c.entryVersion(), Writer: c.config.Writer}
+	batch.Text = batch.entry.Text()
+	return batch
 }
 
-// Entry is what the turn writes.
-func (tr *Turn) Entry() *script.Entry { return tr.entry }
+// Entry is what the batch writes.
+func (b *Batch) Entry() *script.Entry { return b.entry }
 
 func beginning(settings script.Settings, declarations []string) []script.Step {
 	steps := []script.Step{{Kind: script.Begin, Settings: &settings}}
@@ -147,7 +147,7 @@ func (c *Core) AskNext(wish Wish) error {
 		return c.compareWish(&wish, &c.settings, c.begun)
 	case c.wish != nil && (wish.Settings == c.wish.Settings || !wish.Replaces || c.carry != nil):
 		return c.compareWish(&wish, &c.wish.Settings, c.wished)
-	case c.carry != nil || c.turn.bytes >= askBytes:
+	case c.carry != nil || c.batch.bytes >= askBytes:
 		return ErrNotNow
 	}
 	if err := c.mayWish(&wish); err != nil {
@@ -229,14 +229,14 @@ func (c *Core) Leaving() []string {
 
 // Gone says that the engine had no lease of a site that is taken out. The entry that counts it as gone is written only where that is so
 // still. The site counts as at the end from there on: a process that gets its lease later has read before that it is taken out. What the
-// turn has no room for is told by Work later.
+// batch has no room for is told by Work later.
 func (c *Core) Gone(name string) error {
 	site := c.sites.of(name)
 	if site == nil || !site.leaves || site.gone || c.carry != nil {
 		return nil
 	}
-	c.turn.absent = append(c.turn.absent, name)
-	return c.add([]script.Step{{Kind: script.Gone, Site: name, Count: c.turn.most(c.updates - site.applied)}})
+	c.batch.absent = append(c.batch.absent, name)
+	return c.add([]script.Step{{Kind: script.Gone, Site: name, Count: c.batch.most(c.updates - site.applied)}})
 }
 
 // ends is whether no more requests are taken. While a site is away, which would hold all up, the epoch goes on.
@@ -278,13 +278,13 @@ func (c *Core) startCarry(first int64) {
 
 // closing gives the next steps of the end of an epoch: clients that are carried over, or else the beginning of the next one. A program
 // that took over and has not the version which is wished for begins none.
-func (c *Core) closing(turn *Turn) ([]script.Step, int64, error) {
+func (c *Core) closing(batch *Batch) ([]script.Step, int64, error) {
 	if c.wish != nil && !c.runs(c.wish.Settings.Ordup) {
-		return nil, 0, &VersionError{turn.Number, c.wish.Settings.Ordup, c.config.Versions}
+		return nil, 0, &VersionError{batch.Number, c.wish.Settings.Ordup, c.config.Versions}
 	}
-	c.running = turn.Number
+	c.running = batch.Number
 	if c.carry == nil {
-		c.startCarry(turn.Number)
+		c.startCarry(batch.Number)
 	}
 	epoch := c.entryEpoch()
 	if steps := c.carried(); len(steps) > 0 {
@@ -296,7 +296,7 @@ func (c *Core) closing(turn *Turn) ([]script.Step, int64, error) {
 	}
 	steps := beginning(settings, declarations)
 	err = c.run(steps)
-	turn.Epoch, turn.First = c.epoch, c.first
+	batch.Epoch, batch.First = c.epoch, c.first
 	return steps, epoch, err
 }
 

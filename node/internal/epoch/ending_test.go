@@ -43,16 +43,16 @@ func TestAnEpochEndsOnceAllSitesAreThere(t *testing.T) {
 	world := newWorld(t, short, shop)
 	world.ask("ann", 1, "add:tea:-1")
 	world.ask("bob", 1, "add:tea:-1")
-	is(t, Verdict{Kind: Waits}, world.ask("cec", 1, "add:tea:-1")) // Since sites have told nothing, it goes on.
+	is(t, Reply{Kind: Waits}, world.ask("cec", 1, "add:tea:-1")) // Since sites have told nothing, it goes on.
 	world.write()
 	is(t, int64(1), world.core.Epoch())
 	world.tell("north", 1)
 	world.tell("south", 2)
 	world.write()
-	is(t, Verdict{Kind: NotNow}, world.ask("dan", 1, "add:tea:-1"))
-	is(t, Verdict{Kind: Answered, Answer: script.Answer{Place: 1, Epoch: 1}}, world.ask("ann", 1, "add:tea:-1"))
+	is(t, Reply{Kind: NotNow}, world.ask("dan", 1, "add:tea:-1"))
+	is(t, Reply{Kind: Answered, Answer: script.Answer{Place: 1, Epoch: 1}}, world.ask("ann", 1, "add:tea:-1"))
 	world.now += Away // Nobody is here any more, so it goes on.
-	is(t, Verdict{Kind: Waits}, world.ask("dan", 1, "add:coffee:-1"))
+	is(t, Reply{Kind: Waits}, world.ask("dan", 1, "add:coffee:-1"))
 	world.write()
 	world.tellAll()
 	is(t, 3, world.write()) // the places, the clients, the beginning
@@ -65,9 +65,9 @@ func TestAnEpochEndsOnceAllSitesAreThere(t *testing.T) {
 	other := world.replay(config("p2"))
 	is(t, len(world.script)-1, other.First())
 	is(t, fmt.Sprint(world.core.clients), fmt.Sprint(other.clients))
-	is(t, Verdict{Kind: Answered, Answer: script.Answer{Place: 1, Epoch: 1}}, world.ask("ann", 1, "add:tea:-1"))
-	is(t, Verdict{Kind: Answered, Answer: script.Answer{Refusal: script.Refusal{Number: 6, Name: "UnknownObject"}}}, world.ask("dan", 1, "add:coffee:-1"))
-	is(t, Verdict{Kind: Differs}, world.ask("ann", 1, "add:tea:-2"))
+	is(t, Reply{Kind: Answered, Answer: script.Answer{Place: 1, Epoch: 1}}, world.ask("ann", 1, "add:tea:-1"))
+	is(t, Reply{Kind: Answered, Answer: script.Answer{Refusal: script.Refusal{Number: 6, Name: "UnknownObject"}}}, world.ask("dan", 1, "add:coffee:-1"))
+	is(t, Reply{Kind: Differs}, world.ask("ann", 1, "add:tea:-2"))
 }
 
 func TestAnEpochDoesNotEndBeforeASiteThatIsHereHasToldAll(t *testing.T) {
@@ -79,7 +79,7 @@ func TestAnEpochDoesNotEndBeforeASiteThatIsHereHasToldAll(t *testing.T) {
 	world.next()
 	world.write()
 	is(t, int64(1), world.core.Epoch())
-	is(t, Verdict{Kind: NotNow}, world.ask("ann", 3, "add:tea:-1"))
+	is(t, Reply{Kind: NotNow}, world.ask("ann", 3, "add:tea:-1"))
 	world.tell("south", 2)
 	world.write()
 	is(t, int64(2), world.core.Epoch())
@@ -105,7 +105,7 @@ func TestASiteThatTellsNothingNewIsAway(t *testing.T) {
 func TestAClientIsForgottenAtItsAge(t *testing.T) {
 	world := newWorld(t, settings, shop)
 	world.ask("ann", 1, "add:tea:-1")
-	for _, kind := range []VerdictKind{Answered, Answered, Waits} {
+	for _, kind := range []ReplyKind{Answered, Answered, Waits} {
 		world.write()
 		is(t, kind, world.ask("ann", 1, "add:tea:-1").Kind)
 		world.next()
@@ -150,8 +150,8 @@ func TestAWishIsMetOnce(t *testing.T) {
 	world.keep(world.seal()) // the beginning
 	for _, core := range []*Core{world.core, world.replay(config("p2"))} {
 		is(t, []any{int64(2), false}, []any{core.Epoch(), core.Status(world.now).Due})
-		if turn, err := core.Seal(world.now); turn != nil || err != nil {
-			t.Errorf("%s is written, %v", turn.Text, err)
+		if batch, err := core.Seal(world.now); batch != nil || err != nil {
+			t.Errorf("%s is written, %v", batch.Text, err)
 		}
 	}
 }
@@ -174,7 +174,7 @@ func TestEachEpochTellsWithWhatTheScriptBegan(t *testing.T) {
 	}
 }
 
-func TestAWishTakesThePlaceOfAnother(t *testing.T) {
+func TestAWishReplacesAnother(t *testing.T) {
 	world := newWorld(t, settings, append(shop[:4:4], "site east 1", "start"))
 	world.ask("ann", 1, "add:tea:-1")
 	world.next("object tea 1", "site north 1", "site south 1", "start")
@@ -211,7 +211,7 @@ func TestWishesThatCannotBe(t *testing.T) {
 		}
 	}
 	is(t, 0, world.write())
-	_, err := FirstTurn(config("p1"), script.Settings{Every: 0, Remembers: 1, Origin: "0", Ordup: "1"}, shop)
+	_, err := FirstBatch(config("p1"), script.Settings{Every: 0, Remembers: 1, Origin: "0", Ordup: "1"}, shop)
 	is(t, true, err != nil)
 }
 
@@ -233,9 +233,9 @@ func TestASiteLeavesOnceItHasNoLease(t *testing.T) {
 	is(t, nil, world.core.Gone("east"))
 	is(t, 0, world.write())
 	is(t, nil, world.core.Gone("north"))
-	turn := world.seal()
-	is(t, []string{"north"}, turn.Absent)
-	world.keep(turn)
+	batch := world.seal()
+	is(t, []string{"north"}, batch.Absent)
+	world.keep(batch)
 	is(t, "ann 2 ok acked 2 epoch 1", world.answer())
 	world.write()
 	is(t, []string{"north"}, world.absent)
@@ -267,7 +267,7 @@ func TestAfterASiteIsGoneTheEpochMayGoOn(t *testing.T) {
 	is(t, nil, world.core.Gone("north"))
 	world.write()
 	for number := int64(2); number < 9; number++ {
-		is(t, Verdict{Kind: Waits}, world.ask("ann", number, "add:tea:-1")) // South is away.
+		is(t, Reply{Kind: Waits}, world.ask("ann", number, "add:tea:-1")) // South is away.
 		world.write()
 	}
 	is(t, "ann 8 ok acked 8 epoch 1", world.answer())
@@ -283,11 +283,11 @@ func TestClientsAreCarriedOverByManyEntries(t *testing.T) {
 		requests = append(requests, Request{fmt.Sprintf("client-%d-%s", client, strings.Repeat("x", 40)), 1, "x"})
 	}
 	for len(requests) > 0 {
-		verdicts, err := world.core.Ask(requests, world.now)
+		replies, err := world.core.Ask(requests, world.now)
 		is(t, nil, err)
 		left := []Request{}
-		for at, verdict := range verdicts {
-			if verdict.Kind == NotNow {
+		for at, reply := range replies {
+			if reply.Kind == NotNow {
 				left = append(left, requests[at])
 			}
 		}
@@ -300,7 +300,7 @@ func TestClientsAreCarriedOverByManyEntries(t *testing.T) {
 			largest = len(text)
 		}
 	}
-	is(t, true, largest < script.MostEntryBytes && largest > turnBytes/2)
+	is(t, true, largest < script.MostEntryBytes && largest > batchBytes/2)
 	world.next()
 	entries := len(world.script)
 	world.keep(world.seal())
@@ -318,7 +318,7 @@ func TestClientsAreCarriedOverByManyEntries(t *testing.T) {
 	is(t, entries+2, world.core.First())
 	is(t, 9000, len(world.replay(config("p3")).clients))
 	is(t, 9000, world.count("known"))
-	is(t, Verdict{Kind: Answered, Answer: script.Answer{Refusal: script.Refusal{Number: 1, Name: "Syntax"}}}, world.ask("client-77-"+strings.Repeat("x", 40), 1, "x"))
+	is(t, Reply{Kind: Answered, Answer: script.Answer{Refusal: script.Refusal{Number: 1, Name: "Syntax"}}}, world.ask("client-77-"+strings.Repeat("x", 40), 1, "x"))
 }
 
 // A program that has two versions runs the old one until an operator wishes for the new one. Who has the old one alone ends there.
@@ -338,14 +338,14 @@ func TestAnotherVersionOfOrdup(t *testing.T) {
 	world.keep(world.seal())
 	// The old one may take over with this wish in the script. It begins no epoch that it cannot run, unless another wish replaces this one.
 	old := world.replay(config("p1"))
-	turn, err := old.Seal(world.now)
-	is(t, []any{(*Turn)(nil), true, exit.Words}, []any{turn, errors.As(err, &version), exit.Of(err)})
+	batch, err := old.Seal(world.now)
+	is(t, []any{(*Batch)(nil), true, exit.Words}, []any{batch, errors.As(err, &version), exit.Of(err)})
 	is(t, nil, old.AskNext(Wish{From: 2, Settings: script.Settings{Every: 7, Ordup: "1"}, Replaces: true}))
-	for turn == nil || turn.First == 0 {
-		turn, err = old.Seal(world.now)
+	for batch == nil || batch.First == 0 {
+		batch, err = old.Seal(world.now)
 		is(t, nil, err)
 	}
-	is(t, []any{"1", 3, 3}, []any{turn.Entry().Ordup, turn.Epoch, old.Epoch()})
+	is(t, []any{"1", 3, 3}, []any{batch.Entry().Ordup, batch.Epoch, old.Epoch()})
 	world.write()
 	is(t, []any{"2", 3}, []any{world.core.Settings().Ordup, world.core.Epoch()})
 	// All entries of an epoch have its version, also those that carry clients over.

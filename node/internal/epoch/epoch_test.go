@@ -37,11 +37,11 @@ type world struct {
 
 func newWorld(t *testing.T, settings script.Settings, declarations []string) *world {
 	t.Helper()
-	turn, err := FirstTurn(config("p1"), settings, declarations)
+	batch, err := FirstBatch(config("p1"), settings, declarations)
 	if err != nil {
 		t.Fatal(err)
 	}
-	world := &world{t: t, script: [][]byte{turn.Text}, first: 1, now: time.Hour, config: config}
+	world := &world{t: t, script: [][]byte{batch.Text}, first: 1, now: time.Hour, config: config}
 	world.core = world.replay(config("p1"))
 	return world
 }
@@ -69,54 +69,54 @@ func (w *world) work() {
 	}
 }
 
-// seal closes the open turn, and returns the turn.
-func (w *world) seal() *Turn {
+// seal closes the open batch, and returns the batch.
+func (w *world) seal() *Batch {
 	w.t.Helper()
 	w.work()
-	turn, err := w.core.Seal(w.now)
+	batch, err := w.core.Seal(w.now)
 	if err != nil {
 		w.t.Fatal(err)
 	}
-	return turn
+	return batch
 }
 
-// keep writes a turn into the script.
-func (w *world) keep(turn *Turn) {
-	w.script = append(w.script, turn.Text)
-	w.core.Written(turn.Number)
-	w.absent = append(w.absent, turn.Absent...)
-	if turn.First > 0 {
-		w.first = turn.First
+// keep writes a batch into the script.
+func (w *world) keep(batch *Batch) {
+	w.script = append(w.script, batch.Text)
+	w.core.Written(batch.Number)
+	w.absent = append(w.absent, batch.Absent...)
+	if batch.First > 0 {
+		w.first = batch.First
 	}
-	for _, answer := range turn.Answers {
+	for _, answer := range batch.Answers {
 		w.told = append(w.told, fmt.Sprintf("%s %d %s", answer.Client, answer.Number, answer.Answer))
 	}
 }
 
-// mostTurns is more than any test has in a row.
-const mostTurns = 1000
+// mostBatches is more than any test has in a row.
+const mostBatches = 1000
 
-// write writes turns until there is nothing to write, and returns how many.
+// write writes batches until there is nothing to write, and returns how many.
 func (w *world) write() int {
 	w.t.Helper()
-	for count := 0; count < mostTurns; count++ {
-		turn := w.seal()
-		if turn == nil {
+	for count := 0; count < mostBatches; count++ {
+		batch := w.seal()
+		if batch == nil {
 			return count
 		}
-		w.keep(turn)
+		w.keep(batch)
 	}
-	w.t.Fatal("there is always one more turn")
+	w.t.Fatal("there is always one more batch")
 	return 0
 }
 
-func (w *world) ask(client string, number int64, changes string) Verdict {
+func (w *world) ask(client string, number int64, changes string) Reply {
 	w.t.Helper()
-	verdicts, err := w.core.Ask([]Request{{client, number, changes}}, w.now)
+	replies, err := w.core.Ask([]Request{{client, number, changes}}, w.now)
 	if err != nil {
 		w.t.Fatal(err)
 	}
-	return verdicts[0]
+	return replies[0]
 }
 
 func (w *world) tell(site string, applied int64) {
@@ -143,37 +143,37 @@ func is(t *testing.T, wants, has any) {
 
 func TestEachNumberIsAnsweredOnce(t *testing.T) {
 	world := newWorld(t, settings, shop)
-	is(t, Verdict{Kind: Waits}, world.ask("ann", 5, "add:tea:-1"))
-	is(t, Verdict{Kind: Waits}, world.ask("ann", 5, "add:tea:-1"))
-	is(t, Verdict{Kind: NotNow}, world.ask("ann", 5, "add:tea:-2"))
+	is(t, Reply{Kind: Waits}, world.ask("ann", 5, "add:tea:-1"))
+	is(t, Reply{Kind: Waits}, world.ask("ann", 5, "add:tea:-1"))
+	is(t, Reply{Kind: NotNow}, world.ask("ann", 5, "add:tea:-2"))
 	is(t, 1, world.write())
 	is(t, "ann 5 ok acked 1 epoch 1", world.answer())
-	is(t, Verdict{Kind: Answered, Answer: script.Answer{Place: 1, Epoch: 1}}, world.ask("ann", 5, "add:tea:-1"))
-	is(t, Verdict{Kind: Differs}, world.ask("ann", 5, "add:tea:-2"))
-	is(t, Verdict{Kind: Passed, Last: 5}, world.ask("ann", 4, "add:tea:-1"))
+	is(t, Reply{Kind: Answered, Answer: script.Answer{Place: 1, Epoch: 1}}, world.ask("ann", 5, "add:tea:-1"))
+	is(t, Reply{Kind: Differs}, world.ask("ann", 5, "add:tea:-2"))
+	is(t, Reply{Kind: Passed, Last: 5}, world.ask("ann", 4, "add:tea:-1"))
 	is(t, 0, world.write())
-	is(t, Verdict{Kind: Waits}, world.ask("bob", 1, "add:coffee:1"))
+	is(t, Reply{Kind: Waits}, world.ask("bob", 1, "add:coffee:1"))
 	is(t, 1, world.write())
 	is(t, "bob 1 refused 6 UnknownObject", world.answer())
-	is(t, Verdict{Kind: Answered, Answer: script.Answer{Refusal: script.Refusal{Number: 6, Name: "UnknownObject"}}}, world.ask("bob", 1, "add:coffee:1"))
+	is(t, Reply{Kind: Answered, Answer: script.Answer{Refusal: script.Refusal{Number: 6, Name: "UnknownObject"}}}, world.ask("bob", 1, "add:coffee:1"))
 	for _, request := range []Request{{"Ann", 1, "x"}, {"", 1, "x"}, {"ann", 0, "x"}, {"ann", -1, "x"}, {"ann", 7, "\xff"},
 		{"ann", 7, "add:tea:1\nsettle"}, {"\xff/1", 7, "x"}, {"ann", 7, strings.Repeat("x", 4001)}} {
-		is(t, Verdict{Kind: Malformed}, world.ask(request.Client, request.Number, request.Changes))
+		is(t, Reply{Kind: Malformed}, world.ask(request.Client, request.Number, request.Changes))
 	}
-	is(t, Verdict{Kind: Waits}, world.ask("ann", 7, ""))
+	is(t, Reply{Kind: Waits}, world.ask("ann", 7, ""))
 	world.write()
 	is(t, "ann 7 refused 11 Empty", world.answer())
 }
 
 func TestAClientThatDoesNotWait(t *testing.T) {
 	world := newWorld(t, settings, shop)
-	verdicts, err := world.core.Ask([]Request{{"ann", 1, "add:tea:-1"}, {"ann", 1, "add:tea:-1"}, {"ann", 2, "add:tea:-1"},
+	replies, err := world.core.Ask([]Request{{"ann", 1, "add:tea:-1"}, {"ann", 1, "add:tea:-1"}, {"ann", 2, "add:tea:-1"},
 		{"ann", 1, "add:tea:-1"}, {"ann", 2, "add:tea:-3"}}, world.now)
 	is(t, nil, err)
-	is(t, []Verdict{{Kind: Waits}, {Kind: Waits}, {Kind: Waits}, {Kind: NotNow}, {Kind: NotNow}}, verdicts)
+	is(t, []Reply{{Kind: Waits}, {Kind: Waits}, {Kind: Waits}, {Kind: NotNow}, {Kind: NotNow}}, replies)
 	world.keep(world.seal())
-	is(t, Verdict{Kind: Passed, Last: 2}, world.ask("ann", 1, "add:tea:-1"))
-	is(t, Verdict{Kind: Differs}, world.ask("ann", 2, "add:tea:-3"))
+	is(t, Reply{Kind: Passed, Last: 2}, world.ask("ann", 1, "add:tea:-1"))
+	is(t, Reply{Kind: Differs}, world.ask("ann", 2, "add:tea:-3"))
 	world.ask("ann", 3, "add:tea:-1")
 	world.write()
 	is(t, 3, world.count("ask"))
@@ -186,7 +186,7 @@ func TestAClientThatDoesNotWait(t *testing.T) {
 	world.tell("north", 4)
 	world.write()
 	is(t, "ann 4 ok acked 4 epoch 1", world.answer())
-	is(t, Verdict{Kind: Answered, Answer: script.Answer{Refusal: script.Refusal{Number: 6, Name: "UnknownObject"}}}, world.ask("ann", 5, "add:milk:-1"))
+	is(t, Reply{Kind: Answered, Answer: script.Answer{Refusal: script.Refusal{Number: 6, Name: "UnknownObject"}}}, world.ask("ann", 5, "add:milk:-1"))
 }
 
 func TestAnAnswerIsToldOnceItsEntryIsWritten(t *testing.T) {
@@ -194,13 +194,13 @@ func TestAnAnswerIsToldOnceItsEntryIsWritten(t *testing.T) {
 	world.ask("ann", 1, "add:tea:-1")
 	first := world.seal()
 	is(t, 1, len(first.Answers))
-	is(t, Verdict{Kind: Waits}, world.ask("ann", 1, "add:tea:-1"))
-	// The next turn is run while the first is on its way.
+	is(t, Reply{Kind: Waits}, world.ask("ann", 1, "add:tea:-1"))
+	// The next batch is run while the first is on its way.
 	world.tell("south", 0)
-	is(t, Verdict{Kind: Waits}, world.ask("bob", 1, "add:tea:-1"))
+	is(t, Reply{Kind: Waits}, world.ask("bob", 1, "add:tea:-1"))
 	world.keep(first)
-	is(t, Verdict{Kind: Answered, Answer: script.Answer{Place: 1, Epoch: 1}}, world.ask("ann", 1, "add:tea:-1"))
-	is(t, Verdict{Kind: Waits}, world.ask("bob", 1, "add:tea:-1"))
+	is(t, Reply{Kind: Answered, Answer: script.Answer{Place: 1, Epoch: 1}}, world.ask("ann", 1, "add:tea:-1"))
+	is(t, Reply{Kind: Waits}, world.ask("bob", 1, "add:tea:-1"))
 	second := world.seal()
 	is(t, 0, len(second.Answers)) // The limit of north is 1, and it told nothing.
 	world.keep(second)
@@ -210,7 +210,7 @@ func TestAnAnswerIsToldOnceItsEntryIsWritten(t *testing.T) {
 	is(t, "bob 1 ok acked 2 epoch 1", world.answer())
 }
 
-// What a client is told for good stands in the script: where the turn is lost, the other request may be done.
+// What a client is told for good stands in the script: where the batch is lost, the other request may be done.
 func TestNothingIsToldForGoodOfWhatIsNotWritten(t *testing.T) {
 	world := newWorld(t, settings, shop)
 	world.ask("ann", 1, "add:tea:-1")
@@ -222,28 +222,28 @@ func TestNothingIsToldForGoodOfWhatIsNotWritten(t *testing.T) {
 		is(t, NotNow, world.ask("ann", 1, "add:tea:-2").Kind)
 		is(t, NotNow, world.ask("bob", 1, "add:tea:-1").Kind)
 	}
-	world.core = world.replay(config("p2")) // The turn is lost.
+	world.core = world.replay(config("p2")) // The batch is lost.
 	is(t, Waits, world.ask("ann", 1, "add:tea:-2").Kind)
 	is(t, Waits, world.ask("bob", 1, "add:tea:-1").Kind)
 	world.ask("bob", 2, "add:tea:-1")
 	world.write()
 	for _, core := range []*Core{world.core, world.replay(config("p3"))} {
 		world.core = core
-		is(t, Verdict{Kind: Differs}, world.ask("ann", 1, "add:tea:-1"))
-		is(t, Verdict{Kind: Passed, Last: 2}, world.ask("bob", 1, "add:tea:-1"))
+		is(t, Reply{Kind: Differs}, world.ask("ann", 1, "add:tea:-1"))
+		is(t, Reply{Kind: Passed, Last: 2}, world.ask("bob", 1, "add:tea:-1"))
 	}
 }
 
 func TestPlacesThatCannotBe(t *testing.T) {
 	world := newWorld(t, settings, shop)
 	world.ask("ann", 1, "add:tea:-1")
-	turn := world.seal()
+	batch := world.seal()
 	core := world.core
-	is(t, nil, core.Tell(Place{Site: "south", Epoch: 1, Applied: 1, Entry: turn.Number}, world.now))
-	is(t, ErrBehind, core.Tell(Place{Site: "north", Epoch: 1, Applied: 2, Entry: turn.Number}, world.now))
-	is(t, ErrBehind, core.Tell(Place{Site: "north", Epoch: 2, Applied: 0, Entry: turn.Number + 9}, world.now))
-	world.keep(turn)
-	for _, place := range []Place{{Applied: 2, Entry: turn.Number}, {Applied: 1 << 62}, {Applied: -1}, {Applied: -1 << 63, Entry: 1 << 62}} {
+	is(t, nil, core.Tell(Place{Site: "south", Epoch: 1, Applied: 1, Entry: batch.Number}, world.now))
+	is(t, ErrBehind, core.Tell(Place{Site: "north", Epoch: 1, Applied: 2, Entry: batch.Number}, world.now))
+	is(t, ErrBehind, core.Tell(Place{Site: "north", Epoch: 2, Applied: 0, Entry: batch.Number + 9}, world.now))
+	world.keep(batch)
+	for _, place := range []Place{{Applied: 2, Entry: batch.Number}, {Applied: 1 << 62}, {Applied: -1}, {Applied: -1 << 63, Entry: 1 << 62}} {
 		place.Site, place.Epoch = "north", 1
 		if _, cannotBe := core.Tell(place, world.now).(*CannotBeError); !cannotBe {
 			t.Errorf("%v is taken", place)
@@ -323,7 +323,7 @@ func TestWhatIsNoScript(t *testing.T) {
 	}
 }
 
-func holds(t *testing.T, part, text string) {
+func has(t *testing.T, part, text string) {
 	t.Helper()
 	if !strings.Contains(text, part) {
 		t.Errorf("%q is not in %q", part, text)

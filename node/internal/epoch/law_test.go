@@ -67,7 +67,7 @@ func TestWhoRunsTheScriptDoesNotBelieveItsWriter(t *testing.T) {
 				err := take(replay, row.entries...)
 				var broken *BrokenError
 				is(t, true, errors.As(err, &broken))
-				holds(t, row.why, fmt.Sprint(who, err))
+				has(t, row.why, fmt.Sprint(who, err))
 			}
 		})
 	}
@@ -81,12 +81,12 @@ func TestAnEpochThatIsNotDueDoesNotEnd(t *testing.T) {
 	world.keep(world.seal())
 	beginning := script.Entry{Epoch: 2, Steps: beginning(world.core.settings, shop)}
 	for _, replay := range world.readers() {
-		holds(t, "the epoch 1 is not to end yet", fmt.Sprint(take(replay, beginning)))
+		has(t, "the epoch 1 is not to end yet", fmt.Sprint(take(replay, beginning)))
 	}
 	world.next()
 	world.keep(world.seal())
 	for _, replay := range world.readers() {
-		holds(t, "has 2 updates, of which 1 are acknowledged", fmt.Sprint(take(replay, beginning)))
+		has(t, "has 2 updates, of which 1 are acknowledged", fmt.Sprint(take(replay, beginning)))
 	}
 }
 
@@ -104,7 +104,7 @@ func TestAnAnswerIsOfWhoAsked(t *testing.T) {
 			entry, err := script.Parse(world.seal().Text)
 			is(t, nil, err)
 			change(&entry.Answers()[0])
-			holds(t, "its answers are not those", fmt.Sprint(core.Replay(2, entry)))
+			has(t, "its answers are not those", fmt.Sprint(core.Replay(2, entry)))
 		})
 	}
 }

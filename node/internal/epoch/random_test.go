@@ -10,7 +10,7 @@ import (
 	"ordup.dev/node/internal/script"
 )
 
-// A random run: clients that ask again, sites that apply what is in the script, turns that are lost, writers that take over.
+// A random run: clients that ask again, sites that apply what is in the script, batches that are lost, writers that take over.
 type randomRun struct {
 	*world
 	chance *rand.Rand
@@ -18,8 +18,8 @@ type randomRun struct {
 	numbers map[string]int64
 	changes map[string]string
 	answers map[string]string
-	flying  *Turn
-	// What the steps of a turn count at most, if that is less than usual.
+	flying  *Batch
+	// What the steps of a batch count at most, if that is less than usual.
 	room script.Room
 }
 
@@ -45,7 +45,7 @@ func TestRandomRuns(t *testing.T) {
 	}
 }
 
-// limit has each turn count so much at most, of which many then have no more room.
+// limit has each batch count so much at most, of which many then have no more room.
 func (r *randomRun) limit(room script.Room) {
 	r.room = room
 	r.config = func(writer string) Config {
@@ -90,13 +90,13 @@ func (r *randomRun) askSome(client string) {
 		r.numbers[client]++
 		r.changes[client] = []string{"add:tea:-1", "add:tea:2 add:till:1", "set:till:7", "nonsense"}[r.chance.Intn(4)]
 	}
-	verdict := r.ask(client, r.numbers[client], r.changes[client])
-	switch verdict.Kind {
+	reply := r.ask(client, r.numbers[client], r.changes[client])
+	switch reply.Kind {
 	case Answered:
-		r.hear(client, r.numbers[client], verdict.Answer.String())
+		r.hear(client, r.numbers[client], reply.Answer.String())
 	case Waits, NotNow:
 	default:
-		r.t.Errorf("%s has the verdict %v", client, verdict)
+		r.t.Errorf("%s has the reply %v", client, reply)
 	}
 }
 
@@ -109,14 +109,14 @@ func (r *randomRun) hear(client string, number int64, text string) {
 	r.answers[key(client, number)] = text
 }
 
-// fly seals a turn where none is on its way.
+// fly seals a batch where none is on its way.
 func (r *randomRun) fly() {
 	if r.flying == nil {
 		r.flying = r.seal()
 	}
 }
 
-// land writes the turn that is on its way.
+// land writes the batch that is on its way.
 func (r *randomRun) land() {
 	if r.flying == nil {
 		return
@@ -138,11 +138,11 @@ func (r *randomRun) takeOver() {
 	}
 	r.flying = nil
 	r.core = r.replay(r.config(fmt.Sprintf("p%d", len(r.script))))
-	turn := r.core.TakeOver()
-	if err := r.core.Replay(turn.Number, turn.Entry()); err != nil {
+	batch := r.core.TakeOver()
+	if err := r.core.Replay(batch.Number, batch.Entry()); err != nil {
 		r.t.Error(err)
 	}
-	r.keep(turn)
+	r.keep(batch)
 }
 
 // judge looks at the whole script: each number is asked once and answered once, as was told; each epoch begins with what was before.
@@ -195,7 +195,7 @@ func (r *randomRun) keepsToRoom(entry *script.Entry) {
 	}
 }
 
-// Entries of any bytes, and steps at places where they do not belong, are refused or run, and never a panic.
+// Entries of any bytes, and steps where they do not belong, are refused or run, and never a panic.
 func TestAnyEntries(t *testing.T) {
 	chance := rand.New(rand.NewSource(7))
 	every := settings

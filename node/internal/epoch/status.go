@@ -29,8 +29,8 @@ type SiteStatus struct {
 	HasTold bool
 	// Waited is whether the head waits for the site.
 	Waited bool
-	// JoinWaits is whether the next epoch waits for it.
-	JoinWaits bool
+	// NextWaits is whether the next epoch waits for it.
+	NextWaits bool
 	// Leaves is whether it is taken out, and Gone whether no process has a lease of it any more.
 	Leaves, Gone bool
 	// Limits are those of the epoch, as `count 3`.
@@ -51,7 +51,7 @@ func (c *Core) Status(now time.Duration) Status {
 	}
 	for _, site := range c.sites.all {
 		seen := SiteStatus{Name: site.name, Applied: site.known(), Rounds: site.rounds, HasTold: site.spokeOnce,
-			Leaves: site.leaves, Gone: site.gone, Limits: site.limits, JoinWaits: status.Due && c.carry == nil && site.holdsUp(c.updates)}
+			Leaves: site.leaves, Gone: site.gone, Limits: site.limits, NextWaits: status.Due && c.carry == nil && site.holdsUp(c.updates)}
 		if missing := c.acknowledged - site.known(); missing > 0 {
 			seen.Missing = missing
 		}
@@ -68,7 +68,7 @@ func (c *Core) Status(now time.Duration) Status {
 
 // IsIdle is whether all that was run is in the script.
 func (c *Core) IsIdle() bool {
-	return len(c.turn.steps) == 0 && len(c.decided) == 0 && c.written == c.entries
+	return len(c.batch.steps) == 0 && len(c.decided) == 0 && c.written == c.entries
 }
 
 // Failure is the error by which the core is of no more use, if there was one.

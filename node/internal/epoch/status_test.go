@@ -24,7 +24,7 @@ func TestAStatusSaysWhatIsWaitedFor(t *testing.T) {
 	is(t, true, of("south").HasTold)
 	world.next()
 	world.write()
-	is(t, []bool{true, false}, []bool{of("north").JoinWaits, of("south").JoinWaits})
+	is(t, []bool{true, false}, []bool{of("north").NextWaits, of("south").NextWaits})
 	// A place that is not new says that the site is there, and does not count as something new.
 	world.now += time.Minute
 	is(t, time.Minute, of("south").Told)
@@ -56,8 +56,8 @@ func TestACoreIsIdleOnceAllIsWritten(t *testing.T) {
 	is(t, true, world.core.IsIdle())
 	world.ask("ann", 1, "add:tea:-1")
 	is(t, false, world.core.IsIdle())
-	turn := world.seal()
+	batch := world.seal()
 	is(t, false, world.core.IsIdle())
-	world.keep(turn)
+	world.keep(batch)
 	is(t, true, world.core.IsIdle())
 }

@@ -59,7 +59,7 @@ func withoutComments(text string) string {
 // A transcript is a core that is asked.
 type transcript struct {
 	*world
-	flying *Turn
+	flying *Batch
 }
 
 // do does a command, and gives the lines that it says.
@@ -69,11 +69,11 @@ func (tr *transcript) do(command string) []string {
 	switch words[0] {
 	case "begin": // EVERY REMEMBERS: DECLARATION, ..
 		own := script.Settings{Every: tr.number(words[1]), Remembers: tr.number(words[2]), Origin: "0", Ordup: "1"}
-		turn, err := FirstTurn(config("p1"), own, strings.Split(rest, ", "))
+		batch, err := FirstBatch(config("p1"), own, strings.Split(rest, ", "))
 		is(tr.t, nil, err)
-		tr.script = [][]byte{turn.Text}
+		tr.script = [][]byte{batch.Text}
 		tr.core = tr.replay(config("p1"))
-		return linesOf(turn)
+		return linesOf(batch)
 	case "ask": // CLIENT NUMBER CHANGE..
 		return []string{textOf(tr.ask(words[1], tr.number(words[2]), strings.Join(words[3:], " ")))}
 	case "tell": // SITE APPLIED
@@ -101,10 +101,10 @@ func (tr *transcript) do(command string) []string {
 		return tr.told[before:]
 	case "take-over":
 		tr.core = tr.replay(config("p2"))
-		turn := tr.core.TakeOver()
-		tr.script = append(tr.script, turn.Text)
-		is(tr.t, nil, tr.core.Replay(turn.Number, turn.Entry()))
-		return linesOf(turn)
+		batch := tr.core.TakeOver()
+		tr.script = append(tr.script, batch.Text)
+		is(tr.t, nil, tr.core.Replay(batch.Number, batch.Entry()))
+		return linesOf(batch)
 	}
 	tr.t.Fatalf("there is no command %q", command)
 	return nil
@@ -125,14 +125,14 @@ func okOr(err error) string {
 }
 
 // textOf is what becomes of a request.
-func textOf(verdict Verdict) string {
-	switch verdict.Kind {
+func textOf(reply Reply) string {
+	switch reply.Kind {
 	case Waits:
 		return "waits"
 	case Answered:
-		return "answered " + verdict.Answer.String()
+		return "answered " + reply.Answer.String()
 	case Passed:
-		return fmt.Sprint("passed ", verdict.Last)
+		return fmt.Sprint("passed ", reply.Last)
 	case Differs:
 		return "differs"
 	case NotNow:
@@ -142,16 +142,16 @@ func textOf(verdict Verdict) string {
 }
 
 // linesOf are those of an entry.
-func linesOf(turn *Turn) []string {
-	if turn == nil {
+func linesOf(batch *Batch) []string {
+	if batch == nil {
 		return []string{"nothing"}
 	}
-	first := fmt.Sprintf("entry %d epoch %d", turn.Number, turn.Entry().Epoch)
-	if len(turn.Absent) > 0 {
-		first += " without " + strings.Join(turn.Absent, " ")
+	first := fmt.Sprintf("entry %d epoch %d", batch.Number, batch.Entry().Epoch)
+	if len(batch.Absent) > 0 {
+		first += " without " + strings.Join(batch.Absent, " ")
 	}
 	lines := []string{first}
-	for _, step := range turn.Entry().Steps {
+	for _, step := range batch.Entry().Steps {
 		step.Digest = "-"
 		if step.Settings != nil {
 			own := *step.Settings

@@ -18,14 +18,14 @@ func TestAnEpochHasBegunOnceItsEntryIsWritten(t *testing.T) {
 	is(t, []int64{2, 2}, []int64{world.core.Epoch(), world.core.Begun()})
 }
 
-// An operator is refused by a wish that is written: where the turn is lost, the other wish may come true.
+// An operator is refused by a wish that is written: where the batch is lost, the other wish may come true.
 func TestAWishIsRefusedByOneThatIsWritten(t *testing.T) {
 	world := newWorld(t, settings, shop)
 	world.next()
 	is(t, ErrNotNow, world.core.AskNext(Wish{From: 1, Settings: otherWish}))
 	world.seal()
 	is(t, ErrNotNow, world.core.AskNext(Wish{From: 1, Settings: otherWish}))
-	world.core = world.replay(config("p2")) // The turn is lost.
+	world.core = world.replay(config("p2")) // The batch is lost.
 	is(t, nil, world.core.AskNext(Wish{From: 1, Settings: otherWish}))
 	world.keep(world.seal())
 	is(t, ErrOtherWish, world.core.AskNext(Wish{From: 1}))

@@ -29,7 +29,7 @@ type Teller interface {
 
 // An Engine has the keys of the processes that serve.
 type Engine interface {
-	Holds(ctx context.Context, fleet string) ([]engine.Hold, error)
+	SiteKeys(ctx context.Context, fleet string) ([]engine.Key, error)
 }
 
 // A Fleet takes the places of its members, and tells the least one.
@@ -104,7 +104,7 @@ func (f *Fleet) Run(ctx context.Context, of Engine, log *logs.Log) error {
 // Look looks which keys of the fleet the engine has. After an error what was found before holds: a process gets to serve only once the
 // fleet has taken a place of it.
 func (f *Fleet) Look(ctx context.Context, of Engine) error {
-	holds, err := of.Holds(ctx, f.name)
+	keys, err := of.SiteKeys(ctx, f.name)
 	if err != nil {
 		return fmt.Errorf("look for the keys of the fleet %s: %w", f.name, err)
 	}
@@ -112,9 +112,9 @@ func (f *Fleet) Look(ctx context.Context, of Engine) error {
 	for _, name := range f.names {
 		isListed[engine.SiteKey(f.name, name)] = true
 	}
-	for _, hold := range holds {
-		if !isListed[hold.Key] {
-			unlisted = append(unlisted, hold.Key)
+	for _, key := range keys {
+		if !isListed[key.Name] {
+			unlisted = append(unlisted, key.Name)
 		}
 	}
 	f.lock.Lock()

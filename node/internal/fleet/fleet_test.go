@@ -29,11 +29,11 @@ type keys struct {
 	err   error
 }
 
-func (k *keys) Holds(context.Context, string) (holds []engine.Hold, err error) {
+func (k *keys) SiteKeys(context.Context, string) (found []engine.Key, err error) {
 	for _, name := range k.names {
-		holds = append(holds, engine.Hold{Key: name, IsLeased: true})
+		found = append(found, engine.Key{Name: name, IsLeased: true})
 	}
-	return holds, k.err
+	return found, k.err
 }
 
 func start(up *teller, engine Engine) (*Fleet, func(member string, epochs, applied, entry int64) error) {

@@ -183,7 +183,7 @@ func (a *Audit) HasEnded() bool {
 	status := a.core.Status(0)
 	hasEnded := status.Due && status.Acknowledged == status.Updates
 	for _, site := range status.Sites {
-		hasEnded = hasEnded && !site.JoinWaits
+		hasEnded = hasEnded && !site.NextWaits
 	}
 	return hasEnded
 }

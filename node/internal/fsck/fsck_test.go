@@ -39,19 +39,19 @@ func redeclared(t *testing.T, epochs int64, second []string) []*script.Entry {
 	wishes := map[int64][]string{1: second}
 	config := epoch.Config{Open: openStore, Writer: "p1", Versions: []string{"1"}}
 	settings := script.Settings{Every: 1000, Remembers: 2, Origin: epoch.DigestOf(declarations), Ordup: "1"}
-	turn, err := epoch.FirstTurn(config, settings, declarations)
+	batch, err := epoch.FirstBatch(config, settings, declarations)
 	core, entries := epoch.New(config, 1), []*script.Entry{}
 	defer core.Close()
-	keep := func(turn *epoch.Turn) {
-		entry, err := epoch.Parse(turn.Number, turn.Text)
+	keep := func(batch *epoch.Batch) {
+		entry, err := epoch.Parse(batch.Number, batch.Text)
 		if err != nil {
 			t.Fatal(err)
 		}
 		entries = append(entries, entry)
 	}
 	if err == nil {
-		keep(turn)
-		err = core.Replay(1, turn.Entry())
+		keep(batch)
+		err = core.Replay(1, batch.Entry())
 	}
 	for number := int64(1); err == nil && core.Epoch() <= epochs; number++ {
 		if number%5 != 0 {
@@ -68,12 +68,12 @@ func redeclared(t *testing.T, epochs int64, second []string) []*script.Entry {
 			if err != nil {
 				break
 			}
-			turn, err = core.Seal(1e9 * 100)
-			if err != nil || turn == nil {
+			batch, err = core.Seal(1e9 * 100)
+			if err != nil || batch == nil {
 				break
 			}
-			keep(turn)
-			core.Written(turn.Number)
+			keep(batch)
+			core.Written(batch.Number)
 		}
 	}
 	if err != nil {

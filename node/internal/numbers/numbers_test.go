@@ -38,10 +38,10 @@ func has(t *testing.T, text string, wants ...string) {
 }
 
 var status = primary.Status{Writes: true, Lease: time.Second, Writer: "http://p1:1", Rounds: map[string]int64{"north": 9, "south": 0},
-	Held: map[string]primary.Held{"south": {Keys: 3, WithoutLease: 2}}, Counts: primary.Counts{Requests: 5, Answers: 4},
+	LeaveKeys: map[string]primary.KeyCount{"south": {Keys: 3, WithoutLease: 2}}, Counts: primary.Counts{Requests: 5, Answers: 4},
 	Since: 2 * time.Second, HasSeen: true, Archives: 1,
 	Core: epoch.Status{Epoch: 3, Entries: 40, Updates: 8, Acknowledged: 6, Clients: 2, HeadWaits: 12 * time.Second, Due: true, DueSince: 3 * time.Second,
-		Sites: []epoch.SiteStatus{{Name: "north", Applied: 4, Missing: 2, Rounds: 1, Waited: true, JoinWaits: true, HasTold: true, Told: time.Second,
+		Sites: []epoch.SiteStatus{{Name: "north", Applied: 4, Missing: 2, Rounds: 1, Waited: true, NextWaits: true, HasTold: true, Told: time.Second,
 			Limits: []string{"count 3", "object tea 20"}}, {Name: "south", Applied: 8, Leaves: true}}}}
 
 func TestNumbersOfAPrimary(t *testing.T) {

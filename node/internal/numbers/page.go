@@ -78,22 +78,22 @@ func PageOfPrimary(host string, lag *Lag, status func() primary.Status) http.Han
 
 // rowOf has what is known of a site.
 func rowOf(status *primary.Status, site *epoch.SiteStatus) []cell {
-	told, waits, held := "not yet", []string{}, status.Held[site.Name]
+	told, waits, count := "not yet", []string{}, status.LeaveKeys[site.Name]
 	if site.HasTold {
 		told = ago(site.Told)
 	}
 	for _, each := range []struct {
 		is   bool
 		text string
-	}{{site.Waited, "by the head"}, {site.JoinWaits, "by the next epoch"}, {site.Leaves, "taken out"},
-		{held.Keys > 0, fmt.Sprintf("held by %d keys in the engine", held.Keys)}, {site.Gone, "gone"}} {
+	}{{site.Waited, "by the head"}, {site.NextWaits, "by the next epoch"}, {site.Leaves, "taken out"},
+		{count.Keys > 0, fmt.Sprintf("held by %d keys in the engine", count.Keys)}, {site.Gone, "gone"}} {
 		if each.is {
 			waits = append(waits, each.text)
 		}
 	}
 	return []cell{{Text: site.Name}, {Text: fmt.Sprint(site.Applied), N: true}, {Text: fmt.Sprint(site.Missing), N: true},
 		{Text: strings.Join(site.Limits, ", ")}, {Text: fmt.Sprint(status.Rounds[site.Name]), N: true}, {Text: told, N: true},
-		{Text: strings.Join(waits, ", "), Bad: site.Waited || site.JoinWaits}}
+		{Text: strings.Join(waits, ", "), Bad: site.Waited || site.NextWaits}}
 }
 
 // saysOf says in words what a primary does, and what it waits for.
@@ -108,13 +108,13 @@ func saysOf(status *primary.Status) []cell {
 			says[0] = cell{Text: "It stands by, and knows of no primary that writes.", Bad: true}
 		}
 	}
-	core, waited, join := &status.Core, []string{}, []string{}
+	core, waited, next := &status.Core, []string{}, []string{}
 	for _, site := range core.Sites {
 		if site.Waited {
 			waited = append(waited, site.Name)
 		}
-		if site.JoinWaits {
-			join = append(join, site.Name)
+		if site.NextWaits {
+			next = append(next, site.Name)
 		}
 	}
 	if len(waited) > 0 {
@@ -124,9 +124,9 @@ func saysOf(status *primary.Status) []cell {
 	switch {
 	case core.Ending:
 		says = append(says, cell{Text: "The next epoch is being written."})
-	case core.Due && len(join) > 0:
+	case core.Due && len(next) > 0:
 		says = append(says, cell{Bad: true, Text: fmt.Sprintf("The next epoch has been due for %s, and waits for %s.", ago(core.DueSince),
-			strings.Join(join, ", "))})
+			strings.Join(next, ", "))})
 	}
 	if status.Counts.Full {
 		says = append(says, cell{Text: "The engine is full, and takes no write.", Bad: true})

@@ -64,17 +64,17 @@ func ofSites(status *primary.Status) []sample {
 	for _, site := range status.Core.Sites {
 		samples = append(samples,
 			gauge("head_waits_for", "whether the head waits for the site", truth(site.Waited)).of("site", site.Name),
-			gauge("join_waits_for", "whether the next epoch waits for the site", truth(site.JoinWaits)).of("site", site.Name),
+			gauge("join_waits_for", "whether the next epoch waits for the site", truth(site.NextWaits)).of("site", site.Name),
 			gauge("site_leaves", "whether the site is taken out", truth(site.Leaves)).of("site", site.Name),
 			gauge("site_applied_updates", "updates of the epoch that the site told as applied", float64(site.Applied)).of("site", site.Name),
 			gauge("site_missing_updates", "acknowledged updates that the site did not tell as applied", float64(site.Missing)).of("site", site.Name),
 			counter("site_rounds_total", "forced rounds of the site in the epochs that this process has run", status.Rounds[site.Name]).
 				of("site", site.Name),
 			gauge("site_has_told", "whether the site told this process a place", truth(site.HasTold)).of("site", site.Name))
-		if held, isHeld := status.Held[site.Name]; isHeld {
+		if count, isKnown := status.LeaveKeys[site.Name]; isKnown {
 			samples = append(samples,
-				gauge("leave_keys", "keys in the engine that hold the site which is taken out", float64(held.Keys)).of("site", site.Name),
-				gauge("leave_keys_without_lease", "those of them that have no lease", float64(held.WithoutLease)).of("site", site.Name))
+				gauge("leave_keys", "keys in the engine that hold the site which is taken out", float64(count.Keys)).of("site", site.Name),
+				gauge("leave_keys_without_lease", "those of them that have no lease", float64(count.WithoutLease)).of("site", site.Name))
 		}
 		if site.HasTold {
 			samples = append(samples, gauge("site_told_seconds", "since when the site told nothing", site.Told.Seconds()).of("site", site.Name))

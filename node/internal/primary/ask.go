@@ -144,7 +144,7 @@ func (p *Primary) Next(ctx context.Context, wish epoch.Wish) (int64, error) {
 		return wish.From + 1, done.err
 	case <-ctx.Done():
 		p.calls.dropNext(next)
-		return 0, p.noAnswer(ctx.Err(), "the next epoch", func(site *epoch.SiteStatus) bool { return site.JoinWaits })
+		return 0, p.noAnswer(ctx.Err(), "the next epoch", func(site *epoch.SiteStatus) bool { return site.NextWaits })
 	}
 }
 

@@ -47,7 +47,7 @@ type calls struct {
 	// Whether this process writes, and else who does. Over is set once the process ends.
 	open, over bool
 	address    string
-	// What is not taken yet, who waits for a turn, and who for an epoch.
+	// What is not taken yet, who waits for a batch, and who for an epoch.
 	queue   []*call
 	waiting map[asked][]*call
 	waiters int
@@ -123,17 +123,17 @@ func (c *calls) failAllLocked(err error) {
 	c.queue, c.waiting, c.waiters, c.nexts, c.wishes = nil, map[asked][]*call{}, 0, nil, nil
 }
 
-// sort has each call wait for what its verdict says, or tells it. It returns how many wait to be taken, as before.
-func (c *calls) sort(came []*call, verdicts []epoch.Verdict) int {
+// sort has each call wait for what its reply says, or tells it. It returns how many wait to be taken, as before.
+func (c *calls) sort(came []*call, replies []epoch.Reply) int {
 	c.lock.Lock()
 	defer c.lock.Unlock()
 	var later []*call
-	for at, verdict := range verdicts {
+	for at, reply := range replies {
 		call := came[at]
 		if call.isGone {
 			continue
 		}
-		switch verdict.Kind {
+		switch reply.Kind {
 		case epoch.Waits:
 			key := asked{call.request.Client, call.request.Number}
 			call.at = len(c.waiting[key])
@@ -142,9 +142,9 @@ func (c *calls) sort(came []*call, verdicts []epoch.Verdict) int {
 		case epoch.NotNow:
 			later = append(later, call)
 		case epoch.Answered:
-			call.done <- outcome{answer: verdict.Answer}
+			call.done <- outcome{answer: reply.Answer}
 		case epoch.Passed:
-			call.done <- outcome{err: &PassedError{verdict.Last}}
+			call.done <- outcome{err: &PassedError{reply.Last}}
 		case epoch.Differs:
 			call.done <- outcome{err: ErrDiffers}
 		default:
@@ -171,7 +171,7 @@ func (c *calls) tell(answers []script.Step) {
 	}
 }
 
-// keepWish has a call wait for its epoch, or to be taken in a later turn, or tells why it is not taken.
+// keepWish has a call wait for its epoch, or to be taken in a later batch, or tells why it is not taken.
 func (c *calls) keepWish(next *nextCall, err error) {
 	c.lock.Lock()
 	defer c.lock.Unlock()

@@ -26,12 +26,12 @@ func answer(client string, decided script.Answer) []script.Step {
 func TestWhoGivesUpIsForgotten(t *testing.T) {
 	calls := newCalls()
 	waits, queued, taken, later := ask("ann"), ask("bob"), ask("cec"), ask("dan")
-	calls.sort([]*call{waits}, []epoch.Verdict{{Kind: epoch.Waits}})
+	calls.sort([]*call{waits}, []epoch.Reply{{Kind: epoch.Waits}})
 	calls.queue = []*call{queued}
 	for _, gone := range []*call{waits, queued, taken, later} {
 		calls.drop(gone)
 	}
-	count := calls.sort([]*call{taken, later}, []epoch.Verdict{{Kind: epoch.Waits}, {Kind: epoch.NotNow}})
+	count := calls.sort([]*call{taken, later}, []epoch.Reply{{Kind: epoch.Waits}, {Kind: epoch.NotNow}})
 	if came := calls.takeLocked(); len(came) != 0 {
 		t.Error(came)
 	}
@@ -47,7 +47,7 @@ func TestWhoIsAnsweredWaitsNoMore(t *testing.T) {
 		calls, all := newCalls(), []*call{}
 		for at := 0; at < count; at++ {
 			all = append(all, ask("ann"))
-			calls.sort(all[at:], []epoch.Verdict{{Kind: epoch.Waits}})
+			calls.sort(all[at:], []epoch.Reply{{Kind: epoch.Waits}})
 		}
 		second := (first + 2) % count
 		for _, at := range []int{first, second, first} {
@@ -65,7 +65,7 @@ func TestWhoIsAnsweredWaitsNoMore(t *testing.T) {
 		}
 		// Who gives up after that takes nobody's place, though others have asked for the same since.
 		again := ask("ann")
-		calls.sort([]*call{again}, []epoch.Verdict{{Kind: epoch.Waits}})
+		calls.sort([]*call{again}, []epoch.Reply{{Kind: epoch.Waits}})
 		for _, call := range all {
 			calls.drop(call)
 		}

@@ -9,8 +9,8 @@ import (
 	"ordup.dev/node/internal/epoch"
 )
 
-// A Held says by how many keys in the engine a site is held that is taken out, and how many of them have no lease.
-type Held struct{ Keys, WithoutLease int }
+// A KeyCount says how many keys in the engine a site has that is taken out, and how many of them have no lease.
+type KeyCount struct{ Keys, WithoutLease int }
 
 // leaving are looks for the keys of sites that are taken out. One is under way at a time.
 type leaving struct {
@@ -19,11 +19,11 @@ type leaving struct {
 	gone    chan string
 	isUnder bool
 	// Since when keys without a lease are there as they are. It is of the look that is under way.
-	since map[engine.Hold]time.Duration
+	since map[engine.Key]time.Duration
 }
 
 func newLeaving(primary *Primary) *leaving {
-	return &leaving{Primary: primary, gone: make(chan string, 32), since: map[engine.Hold]time.Duration{}}
+	return &leaving{Primary: primary, gone: make(chan string, 32), since: map[engine.Key]time.Duration{}}
 }
 
 // start begins a look, if there is a site to look for and none is under way.
@@ -40,51 +40,51 @@ func (l *leaving) start(ctx context.Context) {
 func (l *leaving) look(ctx context.Context, sites []string) {
 	defer func() { l.gone <- "" }()
 	before := l.since
-	l.since = map[engine.Hold]time.Duration{}
+	l.since = map[engine.Key]time.Duration{}
 	for _, site := range sites {
-		holds, err := l.config.Engine.Holds(ctx, site)
+		keys, err := l.config.Engine.SiteKeys(ctx, site)
 		if err != nil {
 			l.config.Log.Warn("leaving-site-not-seen", "site", site, "why", err)
 			continue
 		}
-		l.hold(ctx, site, holds, before)
-		if len(holds) == 0 {
+		l.clear(ctx, site, keys, before)
+		if len(keys) == 0 {
 			l.gone <- site
 		}
 	}
 	clock.Pause(ctx, lookAfter)
 }
 
-// hold tells operators what holds a site, and takes away what has had no lease for so long that nobody relies on one any more.
-func (l *leaving) hold(ctx context.Context, site string, holds []engine.Hold, before map[engine.Hold]time.Duration) {
-	now, held := clock.Now(), Held{Keys: len(holds)}
-	for _, hold := range holds {
-		if hold.IsLeased {
+// clear tells operators what holds a site, and takes away what has had no lease for so long that nobody relies on one any more.
+func (l *leaving) clear(ctx context.Context, site string, keys []engine.Key, before map[engine.Key]time.Duration) {
+	now, count := clock.Now(), KeyCount{Keys: len(keys)}
+	for _, key := range keys {
+		if key.IsLeased {
 			continue
 		}
-		held.WithoutLease++
-		since, isKnown := before[hold]
+		count.WithoutLease++
+		since, isKnown := before[key]
 		if !isKnown {
 			since = now
 		}
-		l.since[hold] = since
+		l.since[key] = since
 		if now-since < engine.LeaseTime {
 			continue
 		}
-		switch removed, err := l.config.Engine.RemoveHold(ctx, hold); {
+		switch removed, err := l.config.Engine.RemoveKey(ctx, key); {
 		case err != nil:
-			l.config.Log.Warn("key-not-removed", "site", site, "key", hold.Key, "why", err)
+			l.config.Log.Warn("key-not-removed", "site", site, "key", key.Name, "why", err)
 		case removed:
-			l.config.Log.Info("removed-key", "site", site, "key", hold.Key)
+			l.config.Log.Info("removed-key", "site", site, "key", key.Name)
 		}
 	}
-	if len(holds) > 0 {
-		l.config.Log.Warn("leaving-site-has-keys", "site", site, "keys", held.Keys, "without-lease", held.WithoutLease, "key", holds[0].Key)
+	if len(keys) > 0 {
+		l.config.Log.Warn("leaving-site-has-keys", "site", site, "keys", count.Keys, "without-lease", count.WithoutLease, "key", keys[0].Name)
 	}
 	l.see(func(*epoch.Core) {
-		if l.held == nil {
-			l.held = map[string]Held{}
+		if l.leaveKeys == nil {
+			l.leaveKeys = map[string]KeyCount{}
 		}
-		l.held[site] = held
+		l.leaveKeys[site] = count
 	})
 }

@@ -64,7 +64,7 @@ func TestAKeyWithALeaseHoldsASiteAndIsTold(t *testing.T) {
 	is(t, nil, err)
 	_, err = client.Put(ctx, "site/north/\xff", "\xff", clientv3.WithLease(lease.ID))
 	is(t, nil, err)
-	is(t, 0, len(own.Status().Held))
+	is(t, 0, len(own.Status().LeaveKeys))
 	began := make(chan error, 1)
 	go func() {
 		_, err := deployment.next(epoch.Wish{From: 1, Declarations: withoutNorth})
@@ -75,11 +75,11 @@ func TestAKeyWithALeaseHoldsASiteAndIsTold(t *testing.T) {
 		t.Fatal("the next epoch began", err)
 	case <-time.After(engine.LeaseTime + 2*time.Second):
 	}
-	is(t, map[string]primary.Held{"north": {Keys: 1}}, own.Status().Held)
+	is(t, map[string]primary.KeyCount{"north": {Keys: 1}}, own.Status().LeaveKeys)
 	is(t, true, deployment.said("leaving-site-has-keys", "site=north", "keys=1", "without-lease=0", `key="site/north/\xff"`))
 	_, err = client.Revoke(ctx, lease.ID)
 	is(t, []any{nil, nil}, []any{err, <-began})
-	is(t, 0, len(own.Status().Held))
+	is(t, 0, len(own.Status().LeaveKeys))
 }
 
 // A key is written over whose process serves readers, and is cut off. As long as it relies on its lease its site is not gone.

@@ -1,7 +1,7 @@
 // Package primary has the process that takes requests and writes the script, or stands by for the one that does.
 //
 // One goroutine owns the core, in Run. Others hand it requests, places and wishes by queues, and wait for what becomes of them. One
-// transaction is on its way at a time. Meanwhile the open turn takes what comes, and is run.
+// transaction is on its way at a time. Meanwhile the open batch takes what comes, and is run.
 package primary
 
 import (
@@ -32,7 +32,7 @@ const (
 	endTime = 2 * time.Second
 	// lookAfter is after how long it is looked again whether a site that is taken out has a lease.
 	lookAfter = 500 * time.Millisecond
-	// retryAfter is after how long requests are tried again that the turn had no room for, or the end of an epoch.
+	// retryAfter is after how long requests are tried again that the batch had no room for, or the end of an epoch.
 	retryAfter = 50 * time.Millisecond
 )
 
@@ -61,11 +61,11 @@ type Config struct {
 type Primary struct {
 	config Config
 	// The name of this process, as it stands in the entries and at the key of the lease.
-	own    string
-	lease  *engine.Lease
-	keeper *archive.Keeper
-	ended  chan struct{}
-	counts counters
+	own      string
+	lease    *engine.Lease
+	archiver *archive.Archiver
+	ended    chan struct{}
+	counts   counters
 	// What other goroutines ask, under a lock of its own.
 	calls calls
 
@@ -77,8 +77,8 @@ type Primary struct {
 	// The digests of what the core has run or sealed.
 	digests digests
 	rounds  rounds
-	// What holds sites that are taken out, by the last look of this process.
-	held map[string]Held
+	// How many keys the sites have that are taken out, by the last look of this process.
+	leaveKeys map[string]KeyCount
 
 	// Of the goroutine of Run alone: the last entry of the core that is in the script, and whether the settings were found to be those with
 	// which the script began, when this process saw it first.
@@ -116,7 +116,7 @@ func New(config Config) (*Primary, error) {
 	primary := &Primary{config: config, own: own, ended: make(chan struct{}, 1)}
 	primary.follower = follower.Follower{Engine: config.Engine, Log: config.Log, Pause: afterFailure}
 	primary.calls.init(config.Address)
-	primary.keeper = &archive.Keeper{Engine: config.Engine.Apart(), Folder: config.Folder, Host: config.Host, Copies: config.Copies,
+	primary.archiver = &archive.Archiver{Engine: config.Engine.Apart(), Folder: config.Folder, Host: config.Host, Copies: config.Copies,
 		Log: config.Log, Ended: primary.ended}
 	primary.lease = config.Engine.NewLease(engine.PrimaryKey, own, config.Log, nil)
 	return primary, nil
@@ -129,7 +129,7 @@ func (p *Primary) Run(ctx context.Context) error {
 	var others sync.WaitGroup
 	defer others.Wait()
 	defer cancel()
-	for _, run := range []func(context.Context){p.lease.Run, p.keeper.Run} {
+	for _, run := range []func(context.Context){p.lease.Run, p.archiver.Run} {
 		others.Add(1)
 		go func(run func(context.Context)) { defer others.Done(); run(beside) }(run)
 	}
@@ -204,8 +204,8 @@ type Status struct {
 	HasSeen bool
 	// Rounds are the forced rounds of the sites, over all epochs that this process has run.
 	Rounds map[string]int64
-	// Held says, of the process that writes, what holds each site that is taken out and not gone.
-	Held map[string]Held
+	// LeaveKeys says, of the process that writes, how many keys each site has that is taken out and not gone.
+	LeaveKeys map[string]KeyCount
 	// Archives is how many epochs have ended and are still in the engine.
 	Archives       int64
 	EngineFailures int64
@@ -219,7 +219,7 @@ func (p *Primary) Status() Status {
 		status.Lease = left
 	}
 	status.Waiting, status.Queued = p.calls.sizes()
-	status.Archives = p.keeper.Waiting()
+	status.Archives = p.archiver.Waiting()
 	p.see(func(core *epoch.Core) {
 		if core != nil {
 			status.Core = core.Status(clock.Now())
@@ -227,10 +227,10 @@ func (p *Primary) Status() Status {
 		if p.markAt > 0 {
 			status.Since, status.HasSeen = clock.Now()-p.markAt, true
 		}
-		status.Rounds, status.Held = p.rounds.over(&status.Core), map[string]Held{}
+		status.Rounds, status.LeaveKeys = p.rounds.over(&status.Core), map[string]KeyCount{}
 		for _, site := range status.Core.Sites {
-			if held, isHeld := p.held[site.Name]; isHeld && status.Writes && site.Leaves && !site.Gone {
-				status.Held[site.Name] = held
+			if count, isKnown := p.leaveKeys[site.Name]; isKnown && status.Writes && site.Leaves && !site.Gone {
+				status.LeaveKeys[site.Name] = count
 			}
 		}
 	})

@@ -160,18 +160,18 @@ func (p *Primary) takeOver(ctx context.Context) error {
 		if err := p.catchUp(ctx); err != nil {
 			return err
 		}
-		var turn *epoch.Turn
+		var batch *epoch.Batch
 		err := p.with(func(core *epoch.Core) (err error) {
-			turn = core.TakeOver()
+			batch = core.TakeOver()
 			if core.Epoch() == 0 {
-				turn, err = p.firstTurn()
+				batch, err = p.firstBatch()
 			}
 			return err
 		})
 		if err != nil {
 			return err
 		}
-		err = p.send(ctx, turn)
+		err = p.send(ctx, batch)
 		var taken *engine.TakenError
 		if errors.As(err, &taken) {
 			continue // The primary before was faster, or a write of it was late. So run that too.
@@ -179,17 +179,17 @@ func (p *Primary) takeOver(ctx context.Context) error {
 		if err != nil {
 			return fmt.Errorf("take over: %w", err)
 		}
-		p.config.Log.Info("took-over", "entry", turn.Number, "writer", p.own)
-		p.follower.Mark.Set(turn.Number, turn.Text)
+		p.config.Log.Info("took-over", "entry", batch.Number, "writer", p.own)
+		p.follower.Mark.Set(batch.Number, batch.Text)
 		return p.with(func(core *epoch.Core) error {
-			p.digests.add(&p.follower.Mark, turn.First > 0)
-			return core.Replay(turn.Number, turn.Entry())
+			p.digests.add(&p.follower.Mark, batch.First > 0)
+			return core.Replay(batch.Number, batch.Entry())
 		})
 	}
 }
 
-// firstTurn begins an empty script.
-func (p *Primary) firstTurn() (*epoch.Turn, error) {
+// firstBatch begins an empty script.
+func (p *Primary) firstBatch() (*epoch.Batch, error) {
 	own := p.config
 	if len(own.Declarations) == 0 {
 		return nil, exit.With(exit.Words, errors.New("the script is empty: start a primary with declarations"))
@@ -204,9 +204,9 @@ func (p *Primary) firstTurn() (*epoch.Turn, error) {
 		own.Seconds = UsualSeconds
 	}
 	settings := script.Settings{Every: own.Every, Remembers: own.Remembers, Seconds: own.Seconds, Origin: epoch.DigestOf(own.Declarations), Ordup: own.Versions[0]}
-	turn, err := epoch.FirstTurn(epoch.Config{Open: own.Open, Writer: p.own, Versions: own.Versions}, settings, own.Declarations)
+	batch, err := epoch.FirstBatch(epoch.Config{Open: own.Open, Writer: p.own, Versions: own.Versions}, settings, own.Declarations)
 	if err != nil {
 		return nil, exit.With(exit.Words, err)
 	}
-	return turn, nil
+	return batch, nil
 }

@@ -110,11 +110,11 @@ func TestStart(t *testing.T) {
 func (d *deployment) writeUpdates(updates int) (bytes int) {
 	t, to := d.t, d.members.Engine()
 	config := epoch.Config{Open: openStore, Writer: "p1", Versions: []string{"1"}}
-	turn, err := epoch.FirstTurn(config, script.Settings{Every: epoch.MostEvery, Remembers: 2, Origin: "0", Ordup: "1"}, startDeclarations)
+	batch, err := epoch.FirstBatch(config, script.Settings{Every: epoch.MostEvery, Remembers: 2, Origin: "0", Ordup: "1"}, startDeclarations)
 	is(t, nil, err)
 	core := epoch.New(config, 1)
-	is(t, nil, to.Write(context.Background(), &engine.Write{Number: 1, Text: turn.Text, Epoch: 1, First: 1}))
-	is(t, nil, core.Replay(1, turn.Entry()))
+	is(t, nil, to.Write(context.Background(), &engine.Write{Number: 1, Text: batch.Text, Epoch: 1, First: 1}))
+	is(t, nil, core.Replay(1, batch.Entry()))
 	for count := 0; count < updates; {
 		requests := []epoch.Request{}
 		for ; len(requests) < 200; count++ {
@@ -127,11 +127,11 @@ func (d *deployment) writeUpdates(updates int) (bytes int) {
 		is(t, nil, err)
 		_, err = core.Work(time.Hour)
 		is(t, nil, err)
-		turn, err := core.Seal(time.Hour)
+		batch, err := core.Seal(time.Hour)
 		is(t, nil, err)
-		is(t, nil, to.Write(context.Background(), &engine.Write{Number: turn.Number, Text: turn.Text}))
-		core.Written(turn.Number)
-		bytes += len(turn.Text)
+		is(t, nil, to.Write(context.Background(), &engine.Write{Number: batch.Number, Text: batch.Text}))
+		core.Written(batch.Number)
+		bytes += len(batch.Text)
 	}
 	core.Close()
 	return bytes

@@ -14,10 +14,10 @@ import (
 type writing struct {
 	*Primary
 	// What is on its way to the engine, its mark, and what became of it.
-	flying *epoch.Turn
+	flying *epoch.Batch
 	sealed engine.Mark
 	landed chan error
-	// Until when no requests are taken, since the turn had no room for one, or the epoch ends.
+	// Until when no requests are taken, since the batch had no room for one, or the epoch ends.
 	retry   time.Duration
 	leaving *leaving
 	again   time.Duration
@@ -78,7 +78,7 @@ func (w *writing) run(ctx context.Context) error {
 	}
 }
 
-// work takes what came, unless the process ends, and sends the open turn. Without the lease it does neither.
+// work takes what came, unless the process ends, and sends the open batch. Without the lease it does neither.
 func (w *writing) work(sending context.Context, isHeld, ends bool) error {
 	if !isHeld {
 		return nil
@@ -139,7 +139,7 @@ func (w *writing) ask(core *epoch.Core, came []*call, now time.Duration) error {
 	for at, call := range came {
 		requests[at] = call.request
 	}
-	verdicts, err := core.Ask(requests, now)
+	replies, err := core.Ask(requests, now)
 	if err == nil {
 		err = core.Failure()
 	}
@@ -149,7 +149,7 @@ func (w *writing) ask(core *epoch.Core, came []*call, now time.Duration) error {
 		}
 		return err
 	}
-	later := w.calls.sort(came, verdicts)
+	later := w.calls.sort(came, replies)
 	w.counts.requests.Add(int64(len(came) - later))
 	if later > 0 {
 		w.retry = now + retryAfter
@@ -157,31 +157,31 @@ func (w *writing) ask(core *epoch.Core, came []*call, now time.Duration) error {
 	return nil
 }
 
-// seal sends the open turn, where none is on its way.
+// seal sends the open batch, where none is on its way.
 func (w *writing) seal(ctx context.Context) error {
 	if w.flying != nil {
 		return nil
 	}
 	err := w.with(func(core *epoch.Core) (err error) {
 		w.flying, err = core.Seal(clock.Now())
-		if turn := w.flying; err == nil && turn != nil {
+		if batch := w.flying; err == nil && batch != nil {
 			// A site may know the entry before this process knows that it is written.
-			w.sealed.Set(turn.Number, turn.Text)
-			w.digests.add(&w.sealed, turn.First > 0)
+			w.sealed.Set(batch.Number, batch.Text)
+			w.digests.add(&w.sealed, batch.First > 0)
 		}
 		return err
 	})
-	if turn := w.flying; err == nil && turn != nil {
-		w.retry = 0 // The next turn has room.
-		go func() { w.landed <- w.send(ctx, turn) }()
+	if batch := w.flying; err == nil && batch != nil {
+		w.retry = 0 // The next batch has room.
+		go func() { w.landed <- w.send(ctx, batch) }()
 	}
 	return err
 }
 
-// send writes a turn, and tries again until it is known what became of it.
-func (p *Primary) send(ctx context.Context, turn *epoch.Turn) error {
-	write := &engine.Write{Number: turn.Number, Text: turn.Text, Absent: turn.Absent, Epoch: turn.Epoch, First: turn.First,
-		Last: turn.Last, Since: turn.Since}
+// send writes a batch, and tries again until it is known what became of it.
+func (p *Primary) send(ctx context.Context, batch *epoch.Batch) error {
+	write := &engine.Write{Number: batch.Number, Text: batch.Text, Absent: batch.Absent, Epoch: batch.Epoch, First: batch.First,
+		Last: batch.Last, Since: batch.Since}
 	for {
 		err := p.config.Engine.Write(ctx, write)
 		if err == nil {
@@ -190,7 +190,7 @@ func (p *Primary) send(ctx context.Context, turn *epoch.Turn) error {
 		}
 		if !engine.IsAway(err) {
 			p.counts.full.Store(false)
-			return fmt.Errorf("write the entry %d: %w", turn.Number, err)
+			return fmt.Errorf("write the entry %d: %w", batch.Number, err)
 		}
 		if engine.IsFull(err) {
 			p.counts.full.Store(true)
@@ -198,31 +198,31 @@ func (p *Primary) send(ctx context.Context, turn *epoch.Turn) error {
 		p.config.Log.Warn("engine-away", "why", err)
 		clock.Pause(ctx, afterFailure)
 		if ctx.Err() != nil {
-			return fmt.Errorf("write the entry %d: %w", turn.Number, err)
+			return fmt.Errorf("write the entry %d: %w", batch.Number, err)
 		}
 	}
 }
 
-// land tells the answers of a turn that is written.
+// land tells the answers of a batch that is written.
 func (w *writing) land(err error) error {
-	turn := w.flying
+	batch := w.flying
 	if err != nil {
 		return err
 	}
 	w.flying = nil
 	w.follower.Mark = w.sealed
 	w.counts.entries.Add(1)
-	w.counts.bytes.Add(int64(len(turn.Text)))
+	w.counts.bytes.Add(int64(len(batch.Text)))
 	w.see(func(core *epoch.Core) {
-		core.Written(turn.Number)
+		core.Written(batch.Number)
 		w.markAt = clock.Now()
 	})
-	if turn.First > 0 {
+	if batch.First > 0 {
 		w.noteEpoch()
-		w.config.Log.Info("epoch", "epoch", turn.Epoch, "entry", turn.Number)
+		w.config.Log.Info("epoch", "epoch", batch.Epoch, "entry", batch.Number)
 	}
-	w.calls.tell(turn.Answers)
-	w.counts.answers.Add(int64(len(turn.Answers)))
+	w.calls.tell(batch.Answers)
+	w.counts.answers.Add(int64(len(batch.Answers)))
 	return nil
 }
 

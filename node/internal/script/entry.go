@@ -1,4 +1,4 @@
-// Package script has the entries of a script: what a turn of the primary ran, and what was answered in it.
+// Package script has the entries of a script: what a batch of the primary ran, and what was answered in it.
 //
 // An entry is a text of lines. Its first line has the version of the format, the epoch, the version of ordup that runs the epoch, and
 // the process that wrote it. Each other line is a Step:

@@ -267,7 +267,7 @@ func TestAnotherPrimaryPassesOn(t *testing.T) {
 // An engine without keys.
 type noKeys struct{}
 
-func (noKeys) Holds(context.Context, string) ([]engine.Hold, error) { return nil, nil }
+func (noKeys) SiteKeys(context.Context, string) ([]engine.Key, error) { return nil, nil }
 
 // startFleet starts a fleet of one site. It gives who asks as that site does, and who asks the primary as the fleet does.
 func startFleet(t *testing.T, primary string) (asker, upper *client.Client) {

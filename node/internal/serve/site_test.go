@@ -40,7 +40,7 @@ func TestReadersThatWaitKeepNobodyOut(t *testing.T) {
 }
 
 // Who has waited makes room for the next one: else half of the room is gone for good.
-func TestAReaderThatWaitedLeavesItsPlace(t *testing.T) {
+func TestAReaderThatWaitedMakesRoom(t *testing.T) {
 	config := config(nil)
 	config.Requests = 4
 	address := listenAt(t, func(string) http.Handler { return serve.NewSite(config, "north", &reader{place: 5}) })

@@ -25,7 +25,7 @@ func is(t *testing.T, wants, has any) {
 	}
 }
 
-// written is a script that a core writes: requests, and then the turns.
+// written is a script that a core writes: requests, and then the batches.
 type written struct {
 	t       *testing.T
 	core    *epoch.Core
@@ -36,11 +36,11 @@ func newWritten(t *testing.T) *written { return newScript(t, declared) }
 
 func newScript(t *testing.T, declared []string) *written {
 	config := epoch.Config{Open: openStore, Writer: "p1", Versions: []string{"1"}}
-	turn, err := epoch.FirstTurn(config, script.Settings{Every: 100_000, Remembers: 1, Origin: "0", Ordup: "1"}, declared)
+	batch, err := epoch.FirstBatch(config, script.Settings{Every: 100_000, Remembers: 1, Origin: "0", Ordup: "1"}, declared)
 	is(t, nil, err)
 	core := epoch.New(config, 1)
-	is(t, nil, core.Replay(1, turn.Entry()))
-	return &written{t, core, []*script.Entry{turn.Entry()}}
+	is(t, nil, core.Replay(1, batch.Entry()))
+	return &written{t, core, []*script.Entry{batch.Entry()}}
 }
 
 func (w *written) write() {
@@ -48,22 +48,22 @@ func (w *written) write() {
 	for count := 0; count < 1000; count++ {
 		_, err := w.core.Work(time.Hour)
 		is(w.t, nil, err)
-		turn, err := w.core.Seal(time.Hour)
+		batch, err := w.core.Seal(time.Hour)
 		is(w.t, nil, err)
-		if turn == nil {
+		if batch == nil {
 			return
 		}
-		w.core.Written(turn.Number)
-		w.entries = append(w.entries, turn.Entry())
+		w.core.Written(batch.Number)
+		w.entries = append(w.entries, batch.Entry())
 	}
-	w.t.Fatal("there is always one more turn")
+	w.t.Fatal("there is always one more batch")
 }
 
 func (w *written) ask(client string, number int64, changes string) {
 	w.t.Helper()
-	verdicts, err := w.core.Ask([]epoch.Request{{Client: client, Number: number, Changes: changes}}, time.Hour)
+	replies, err := w.core.Ask([]epoch.Request{{Client: client, Number: number, Changes: changes}}, time.Hour)
 	is(w.t, nil, err)
-	is(w.t, epoch.Waits, verdicts[0].Kind)
+	is(w.t, epoch.Waits, replies[0].Kind)
 }
 
 func (w *written) tell(site string, applied int64) {

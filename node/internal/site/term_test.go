@@ -32,7 +32,7 @@ func newShop(t *testing.T) *shop {
 	return &shop{newWritten(t), members, members.Engine(), ctx, 0}
 }
 
-// put writes the turns, and puts what is new of the script into the engine.
+// put writes the batches, and puts what is new of the script into the engine.
 func (s *shop) put() {
 	s.t.Helper()
 	s.write()

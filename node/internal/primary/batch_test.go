@@ -11,9 +11,9 @@ import (
 	"ordup.dev/node/internal/primary"
 )
 
-// A primary loses its lease while a turn is on its way and the next one is open. The first is written, and the other one is dropped: who
+// A primary loses its lease while a batch is on its way and the next one is open. The first is written, and the other one is dropped: who
 // goes on writes it, and this one follows.
-func TestALeaseIsLostInMidTurn(t *testing.T) {
+func TestALeaseIsLostInMidBatch(t *testing.T) {
 	deployment := deploy(t, 1)
 	begin := func(host string) (*primary.Primary, *etcdtest.Link, *process) {
 		link := deployment.members.Link()
@@ -42,9 +42,9 @@ func TestALeaseIsLostInMidTurn(t *testing.T) {
 	linkOne.Cut()
 	linkTwo.Cut()
 	first := submit(one, "bob")
-	until(t, 5*time.Second, "the turn is not on its way", func() bool { return one.Status().Core.Updates == 2 })
+	until(t, 5*time.Second, "the batch is not on its way", func() bool { return one.Status().Core.Updates == 2 })
 	second := submit(one, "cec")
-	until(t, 5*time.Second, "the next turn is not open", func() bool { return one.Status().Core.Updates == 3 })
+	until(t, 5*time.Second, "the next batch is not open", func() bool { return one.Status().Core.Updates == 3 })
 	deployment.members.Delete(engine.PrimaryKey)
 	until(t, 5*time.Second, "the lease is not lost", func() bool { return one.Status().Lease == 0 })
 	linkOne.Mend()

@@ -8,15 +8,15 @@ import (
 )
 
 const (
-	// askBytes is how large the open turn is when it takes no more requests and no wish, and turnBytes when it asks for no more
+	// askBytes is how large the open batch is when it takes no more requests and no wish, and batchBytes when it asks for no more
 	// acknowledgements. What one step adds then is small. So an entry is below script.MostEntryBytes.
-	askBytes, turnBytes = 256 << 10, 512 << 10
+	askBytes, batchBytes = 256 << 10, 512 << 10
 	// carryBytes is how large an entry is that carries over clients. No request is taken until all have come, so they are few.
 	carryBytes = 896 << 10
 	// answerBytes is as much as an answer has, or more, beside what is counted for any step.
 	answerBytes = 32
-	// turnCounts is what the steps of a turn count at most: less than script.MostCounted, since who reads it runs it at once.
-	turnCounts = 200_000
+	// batchCounts is what the steps of a batch count at most: less than script.MostCounted, since who reads it runs it at once.
+	batchCounts = 200_000
 	// mostTold is how many updates that sites told are added by one call of Work.
 	mostTold = 20_000
 	// Later is how long after an entry sites are written that told something for which nobody waits.
@@ -30,34 +30,34 @@ type Request struct {
 	Changes string
 }
 
-// A Verdict is what becomes of a request.
-type Verdict struct {
-	Kind VerdictKind
+// A Reply is what becomes of a request.
+type Reply struct {
+	Kind ReplyKind
 	// Of Answered: what was decided. Last is, of Passed, the number under which the client asked last.
 	Answer script.Answer
 	Last   int64
 }
 
-// A VerdictKind is one of what may become of a request.
-type VerdictKind uint8
+// A ReplyKind is one of what may become of a request.
+type ReplyKind uint8
 
 const (
-	// Waits says that the request was taken, now or before, and that its answer comes with a turn.
-	Waits VerdictKind = iota + 1
+	// Waits says that the request was taken, now or before, and that its answer comes with a batch.
+	Waits ReplyKind = iota + 1
 	// Answered says that the request has its answer.
 	Answered
 	// Passed says that the client asked under a later number before.
 	Passed
 	// Differs says that the client asked for other changes under this number before.
 	Differs
-	// NotNow says that the turn is full, the epoch ends, or what decides is not written yet: ask again in the next turn.
+	// NotNow says that the batch is full, the epoch ends, or what decides is not written yet: ask again in the next batch.
 	NotNow
 	// Malformed says that the client, the number or the changes have not the form.
 	Malformed
 )
 
-// A Turn is an entry that is to be written.
-type Turn struct {
+// A Batch is an entry that is to be written.
+type Batch struct {
 	Number int64
 	Text   []byte
 	// Absent are sites that must have no lease in the engine as the entry is written.
@@ -71,21 +71,21 @@ type Turn struct {
 	entry   *script.Entry
 }
 
-// Ask takes requests. The verdicts are in their order. With an error the core is of no more use.
-func (c *Core) Ask(requests []Request, now time.Duration) ([]Verdict, error) {
-	verdicts := make([]Verdict, len(requests))
+// Ask takes requests. The replies are in their order. With an error the core is of no more use.
+func (c *Core) Ask(requests []Request, now time.Duration) ([]Reply, error) {
+	replies := make([]Reply, len(requests))
 	steps := c.elapsed(make([]script.Step, 0, len(requests)+1), now)
 	clock, none := c.clock, len(steps)
 	for at := range steps {
 		clock += steps[at].Seconds
 	}
-	ends, bytes := c.ends(now), c.turn.bytes
+	ends, bytes := c.ends(now), c.batch.bytes
 	for at := range requests {
-		verdict := c.verdict(&requests[at])
+		reply := c.reply(&requests[at])
 		switch {
-		case verdict.Kind != 0:
+		case reply.Kind != 0:
 		case ends || bytes >= askBytes:
-			verdict.Kind = NotNow
+			reply.Kind = NotNow
 		default:
 			step := script.Step{Kind: script.Ask, Client: requests[at].Client, Number: requests[at].Number,
 				Digest: script.DigestOf(requests[at].Changes), Words: requests[at].Changes}
@@ -93,14 +93,14 @@ func (c *Core) Ask(requests []Request, now time.Duration) ([]Verdict, error) {
 				asked: c.Next(), time: clock})
 			steps = append(steps, step)
 			bytes += sizeOf(&step)
-			verdict.Kind = Waits
+			reply.Kind = Waits
 		}
-		verdicts[at] = verdict
+		replies[at] = reply
 	}
 	if len(steps) == none {
-		return verdicts, nil
+		return replies, nil
 	}
-	return verdicts, c.add(steps)
+	return replies, c.add(steps)
 }
 
 // elapsed appends the step for the whole seconds that have passed since this writer noted some.
@@ -118,28 +118,28 @@ func (c *Core) elapsed(steps []script.Step, now time.Duration) []script.Step {
 	return steps
 }
 
-// verdict is what becomes of a request, if it need not be run.
-func (c *Core) verdict(request *Request) Verdict {
+// reply is what becomes of a request, if it need not be run.
+func (c *Core) reply(request *Request) Reply {
 	if !script.IsClient(request.Client) || !script.IsNumber(request.Number) || !script.IsChanges(request.Changes) {
-		return Verdict{Kind: Malformed}
+		return Reply{Kind: Malformed}
 	}
 	last := c.clients[request.Client]
 	switch {
 	case request.Number > last.number:
-		return Verdict{}
+		return Reply{}
 	case last.asked > c.written && (request.Number < last.number || script.DigestOf(request.Changes) != last.digest):
-		return Verdict{Kind: NotNow}
+		return Reply{Kind: NotNow}
 	case request.Number < last.number:
-		return Verdict{Kind: Passed, Last: last.number}
+		return Reply{Kind: Passed, Last: last.number}
 	case script.DigestOf(request.Changes) != last.digest:
-		return Verdict{Kind: Differs}
+		return Reply{Kind: Differs}
 	case last.entry == 0 || last.entry > c.written:
-		return Verdict{Kind: Waits}
+		return Reply{Kind: Waits}
 	}
-	return Verdict{Kind: Answered, Answer: last.answer}
+	return Reply{Kind: Answered, Answer: last.answer}
 }
 
-// add runs steps in the open turn.
+// add runs steps in the open batch.
 func (c *Core) add(steps []script.Step) error {
 	if len(steps) == 0 {
 		return nil
@@ -149,16 +149,16 @@ func (c *Core) add(steps []script.Step) error {
 	if err := c.run(steps); err != nil {
 		return err
 	}
-	c.turn.steps = append(c.turn.steps, steps...)
+	c.batch.steps = append(c.batch.steps, steps...)
 	for at := range steps {
-		c.turn.bytes += sizeOf(&steps[at])
-		c.turn.room.Take(&steps[at])
+		c.batch.bytes += sizeOf(&steps[at])
+		c.batch.room.Take(&steps[at])
 		if steps[at].Kind == script.Elapsed {
 			c.timed += time.Duration(steps[at].Seconds) * time.Second
 		}
 	}
 	for at := decided; at < len(c.decided); at++ {
-		c.turn.bytes += sizeOf(&c.decided[at])
+		c.batch.bytes += sizeOf(&c.decided[at])
 	}
 	return nil
 }
@@ -172,7 +172,7 @@ func sizeOf(step *script.Step) int {
 	return size
 }
 
-// Work adds to the open turn what sites told, and asks for acknowledgements. It returns after how long it has more to do though
+// Work adds to the open batch what sites told, and asks for acknowledgements. It returns after how long it has more to do though
 // nothing comes, or 0.
 func (c *Core) Work(now time.Duration) (time.Duration, error) {
 	if c.epoch == 0 || c.carry != nil {
@@ -188,7 +188,7 @@ func (c *Core) Work(now time.Duration) (time.Duration, error) {
 	if err := c.settle(); err != nil {
 		return 0, err
 	}
-	if passed := c.elapsed(nil, now); len(c.turn.steps) > 0 {
+	if passed := c.elapsed(nil, now); len(c.batch.steps) > 0 {
 		if err := c.add(passed); err != nil {
 			return 0, err
 		}
@@ -203,7 +203,7 @@ func (c *Core) Work(now time.Duration) (time.Duration, error) {
 
 // addTold adds the steps for what sites told. Where nobody waits for them, that is later.
 func (c *Core) addTold(now time.Duration) (time.Duration, error) {
-	steps, left := []script.Step{}, c.turn.most(mostTold)
+	steps, left := []script.Step{}, c.batch.most(mostTold)
 	for _, site := range c.sites.all {
 		places := site.known()
 		if site.gone {
@@ -220,11 +220,11 @@ func (c *Core) addTold(now time.Duration) (time.Duration, error) {
 	if len(steps) == 0 {
 		return 0, nil
 	}
-	somebodyWaits := len(c.turn.steps) > 0 || c.maySettle() || c.isDue()
+	somebodyWaits := len(c.batch.steps) > 0 || c.maySettle() || c.isDue()
 	if later := c.sealed + Later - now; later > 0 && !somebodyWaits {
 		return later, nil
 	}
-	if c.turn.bytes >= turnBytes {
+	if c.batch.bytes >= batchBytes {
 		return 0, nil
 	}
 	return 0, c.add(steps)
@@ -247,7 +247,7 @@ func (c *Core) maySettle() bool {
 func (c *Core) settle() error {
 	step := script.Step{Kind: script.Settle, Count: 1}
 	count := int64(0)
-	for c.turn.bytes < turnBytes && c.turn.most(1) > 0 && c.headIsFree() {
+	for c.batch.bytes < batchBytes && c.batch.most(1) > 0 && c.headIsFree() {
 		if err := c.addSettle(&step); err != nil {
 			return err
 		}
@@ -255,22 +255,22 @@ func (c *Core) settle() error {
 	}
 	if count > 0 {
 		step.Count = count
-		c.turn.steps = append(c.turn.steps, step)
-		c.turn.bytes += sizeOf(&step)
+		c.batch.steps = append(c.batch.steps, step)
+		c.batch.bytes += sizeOf(&step)
 	}
 	return nil
 }
 
-// addSettle runs one step, which is not in the open turn yet.
+// addSettle runs one step, which is not in the open batch yet.
 func (c *Core) addSettle(step *script.Step) error {
 	c.running = c.entries + 1
 	decided := len(c.decided)
 	if err := c.run([]script.Step{*step}); err != nil {
 		return err
 	}
-	c.turn.room.Take(step)
+	c.batch.room.Take(step)
 	for at := decided; at < len(c.decided); at++ {
-		c.turn.bytes += sizeOf(&c.decided[at])
+		c.batch.bytes += sizeOf(&c.decided[at])
 	}
 	return nil
 }
@@ -288,16 +288,16 @@ func (c *Core) headIsFree() bool {
 	return true
 }
 
-// Seal closes the open turn, and gives it as an entry. Where there is nothing to write it is nil.
-func (c *Core) Seal(now time.Duration) (*Turn, error) {
+// Seal closes the open batch, and gives it as an entry. Where there is nothing to write it is nil.
+func (c *Core) Seal(now time.Duration) (*Batch, error) {
 	if c.store == nil {
 		return nil, nil
 	}
-	turn := &Turn{Number: c.entries + 1, Absent: c.turn.absent, Last: c.epoch, Since: c.first}
-	steps, epoch := c.turn.steps, c.entryEpoch()
+	batch := &Batch{Number: c.entries + 1, Absent: c.batch.absent, Last: c.epoch, Since: c.first}
+	steps, epoch := c.batch.steps, c.entryEpoch()
 	if len(steps) == 0 && c.isOver(now) {
 		var err error
-		steps, epoch, err = c.closing(turn)
+		steps, epoch, err = c.closing(batch)
 		if err != nil {
 			return nil, err
 		}
@@ -305,24 +305,24 @@ func (c *Core) Seal(now time.Duration) (*Turn, error) {
 	if len(steps) == 0 {
 		return nil, nil
 	}
-	turn.Answers = c.decided
-	turn.entry = &script.Entry{Epoch: epoch, Ordup: c.entryVersion(), Writer: c.config.Writer, Steps: append(steps, turn.Answers...)}
-	if err := turn.seal(); err != nil {
+	batch.Answers = c.decided
+	batch.entry = &script.Entry{Epoch: epoch, Ordup: c.entryVersion(), Writer: c.config.Writer, Steps: append(steps, batch.Answers...)}
+	if err := batch.seal(); err != nil {
 		c.failure = err
 		return nil, err
 	}
-	c.entries, c.sealed, c.turn, c.decided = turn.Number, now, openTurn{room: c.config.room}, nil
-	return turn, nil
+	c.entries, c.sealed, c.batch, c.decided = batch.Number, now, openBatch{room: c.config.room}, nil
+	return batch, nil
 }
 
 // seal has the text of the entry. One that this program does not read, or that is too large for the engine, is never written.
-func (tr *Turn) seal() error {
-	tr.Text = tr.entry.Text()
-	if len(tr.Text) > script.MostEntryBytes {
-		return &BrokenError{tr.Number, fmt.Sprintf("it is not written, since it has %d bytes", len(tr.Text))}
+func (b *Batch) seal() error {
+	b.Text = b.entry.Text()
+	if len(b.Text) > script.MostEntryBytes {
+		return &BrokenError{b.Number, fmt.Sprintf("it is not written, since it has %d bytes", len(b.Text))}
 	}
-	if err := script.Check(tr.Text); err != nil {
-		return &BrokenError{tr.Number, fmt.Sprintf("it is not written, since nobody reads it: %v", err)}
+	if err := script.Check(b.Text); err != nil {
+		return &BrokenError{b.Number, fmt.Sprintf("it is not written, since nobody reads it: %v", err)}
 	}
 	return nil
 }

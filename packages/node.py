@@ -64,6 +64,7 @@ class Node:
             f"usr/share/{NAME}/proof": self.proof,
             f"usr/share/doc/{NAME}/copyright": self.rights.encode("utf-8"),
             **{f"lib/systemd/system/{it.name}": it.read_bytes() for it in sorted(folder.glob("*.service"))},
+            **{f"usr/share/{NAME}/prometheus/{it.name}": it.read_bytes() for it in sorted((TOP / "node/prometheus").glob("*.yml"))},
             **{f"usr/share/doc/{NAME}/{it}": data for it, data in pages().items()},
         }
         return [Entry(f"usr/bin/{NAME}", 0o755, self.program), *(Entry(path, 0o644, data) for path, data in made.items())]

@@ -4,7 +4,6 @@ import (
 	"fmt"
 	"os"
 	"regexp"
-	"sort"
 	"strings"
 	"testing"
 	"time"
@@ -127,8 +126,12 @@ func TestThePageHasEachNumberWithItsType(t *testing.T) {
 	}
 }
 
-func TestThePageNamesNoOtherNumber(t *testing.T) {
+func TestThePageAndTheAlertsNameNoOtherNumber(t *testing.T) {
 	t.Parallel()
+	rules, err := os.ReadFile("../../prometheus/ordup-node.rules.yml")
+	if err != nil {
+		t.Fatal(err)
+	}
 	names := map[string]bool{}
 	for _, made := range allMade(t) {
 		for number := range made {
@@ -136,14 +139,15 @@ func TestThePageNamesNoOtherNumber(t *testing.T) {
 			names["ordup_"+name] = true
 		}
 	}
-	named := regexp.MustCompile(`\bordup_\w+`).FindAllString(machines(t), -1)
-	sort.Strings(named)
-	if len(named) < 10 {
-		t.Error(named)
-	}
-	for _, name := range named {
-		if !names[name] {
-			t.Errorf("there is no %s", name)
+	for where, text := range map[string]string{"the page": machines(t), "the alerts": string(rules)} {
+		named := regexp.MustCompile(`\bordup_\w+`).FindAllString(text, -1)
+		if len(named) == 0 {
+			t.Errorf("no number is in %s", where)
+		}
+		for _, name := range named {
+			if !names[name] {
+				t.Errorf("there is no %s, which is in %s", name, where)
+			}
 		}
 	}
 }

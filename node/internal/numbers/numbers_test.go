@@ -50,7 +50,7 @@ func TestNumbersOfAPrimary(t *testing.T) {
 	numbers.Waited(3 * time.Millisecond)
 	has(t, get(t, numbers.Handler()), `ordup_build_info{version="1.2.3"} 1`, "ordup_primary_writes 1", "ordup_epoch 3", "ordup_log_updates 8",
 		"ordup_acknowledged_updates 6", "ordup_clients 2", "ordup_head_wait_seconds 12", `ordup_head_waits_for{site="north"} 1`,
-		`ordup_head_waits_for{site="south"} 0`, `ordup_join_waits_for{site="north"} 1`, "ordup_join_due 1", "ordup_join_due_seconds 3",
+		`ordup_head_waits_for{site="south"} 0`, `ordup_next_epoch_waits_for{site="north"} 1`, "ordup_next_epoch_due 1", "ordup_next_epoch_due_seconds 3",
 		`ordup_site_missing_updates{site="north"} 2`, `ordup_site_rounds_total{site="north"} 9`, `ordup_site_told_seconds{site="north"} 1`,
 		`ordup_leave_keys{site="south"} 3`, `ordup_leave_keys_without_lease{site="south"} 2`, `ordup_site_has_told{site="south"} 0`, "ordup_last_entry_seconds 2", "ordup_archives_waiting 1", "ordup_requests_total 5", "# TYPE ordup_requests_total counter",
 		`ordup_update_wait_seconds_bucket{le="0.005"} 1`, "ordup_connections 7", "go_goroutines", "process_resident_memory_bytes")

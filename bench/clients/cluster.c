@@ -1,19 +1,6 @@
-/* Measures a cluster of a program in C beside a plain mutex and an array: `cluster [KIND..]`. bench/clients/cluster builds and runs it.
- *
- * A row has the kind, how many threads, what one of them takes of ordup, and of the plain program, and the ratio; and then the same of what
- * it takes of the processors, which says more where others use these. Each number is the shortest of five runs, or of forty short ones
- * where it is a read; each run of ordup stands beside one of the plain program.
- *
- *   reads-own      a read, each thread at a site of its own; of the plain program, at an array with a lock of its own
- *   reads-one      a read, all threads at one site, or at one array
- *   reads-beside   a read, each thread at a site of its own, while one thread makes updates
- *   update         an update without a limit, which waits for nobody; of the plain program, a lock, an addition to each of four arrays
- *   round-0        an update until it is acknowledged, with limits 0 at four sites; of the plain program, four threads sleep until they
- *   round-10       have applied it, or with limits 10 one each, and wake the caller
- *   idle           seconds of a processor in two seconds, with four sites and nothing to do
- *   memory         bytes that malloc gave for a cluster with four sites, and for each update */
+/* cluster WAY LOAD THREADS SECONDS: measures a cluster of a program in C, or a plain lock and an array, and prints a number.
+ * bench/clients/clusters tells the loads, and runs it. */
 #define _GNU_SOURCE
-#include <malloc.h>
 #include <pthread.h>
 #include <stdatomic.h>
 #include <stdio.h>
@@ -24,7 +11,7 @@
 
 #include "ordup_cluster.h"
 
-enum { SITES = 4, OBJECTS = 64, RUNS = 5, READ_RUNS = 40 };
+enum { SITES = 4, OBJECTS = 64, CLUSTERS = 100, UPDATES = 100000 };
 
 static double seconds(clockid_t clock) {
     struct timespec at;
@@ -32,17 +19,79 @@ static double seconds(clockid_t clock) {
     return (double)at.tv_sec + (double)at.tv_nsec * 1e-9;
 }
 
+static void rest(double passed) {
+    nanosleep(&(struct timespec){(time_t)passed, (long)((passed - (double)(time_t)passed) * 1e9)}, NULL);
+}
+
 static void fail(const char *what) {
     fprintf(stderr, "cluster: %s\n", what);
     exit(1);
+}
+
+/* ---- callers ---- */
+
+/* A thread that makes its calls batch by batch, one for each object in a batch, until it is over. */
+struct caller {
+    _Alignas(128) uint32_t at;
+    void (*batch)(struct caller *);
+    uint64_t most, made;
+    double rate;
+    ordup_session session;
+    int64_t sum;
+};
+
+/* How many updates there may be, after which a load ends: a log has a million. */
+static uint64_t most_updates = UINT64_MAX;
+static _Atomic int over;
+static pthread_barrier_t start;
+
+static void *call(void *given) {
+    struct caller *it = given;
+    pthread_barrier_wait(&start);
+    double begun = seconds(CLOCK_MONOTONIC);
+    do {
+        it->batch(it);
+        it->made += OBJECTS;
+    } while (!atomic_load_explicit(&over, memory_order_relaxed) && it->made < it->most);
+    it->rate = (double)it->made / (seconds(CLOCK_MONOTONIC) - begun);
+    if (it->made >= it->most)
+        over = 1;
+    return NULL;
+}
+
+/* How many calls a second so many threads make, beside one more where there is `beside`. */
+static double rate(void (*batch)(struct caller *), int threads, int is_apart, uint64_t most, void (*beside)(struct caller *), double passed) {
+    static struct caller callers[17];
+    pthread_t them[17];
+    int all = threads + (beside != NULL);
+    double sum = 0;
+    pthread_barrier_init(&start, NULL, (unsigned)all + 1);
+    for (int i = 0; i < all; i++) {
+        callers[i] = (struct caller){.at = is_apart ? (uint32_t)i % SITES : 0, .batch = batch, .most = most};
+        if (i == threads) {
+            callers[i].batch = beside;
+            callers[i].most = most_updates;
+        }
+        if (pthread_create(&them[i], NULL, call, &callers[i]))
+            fail("a thread is refused");
+    }
+    pthread_barrier_wait(&start);
+    rest(passed);
+    over = 1;
+    for (int i = 0; i < all; i++) {
+        pthread_join(them[i], NULL);
+        sum += i < threads ? callers[i].rate : 0;
+    }
+    return sum;
 }
 
 /* ---- ordup ---- */
 
 static ordup_cluster *cluster;
 
-static void open_cluster(int64_t limit) {
+static ordup_cluster *open_cluster(int64_t limit) {
     ordup_setup setup = ORDUP_SETUP;
+    ordup_cluster *opened;
     uint32_t id;
     char name[16];
     ordup_setup_open(&setup);
@@ -53,133 +102,138 @@ static void open_cluster(int64_t limit) {
         if (limit >= 0)
             ordup_setup_limit(&setup, id, ORDUP_SCOPE_ALL, 0, (uint64_t)limit);
     }
-    if (ordup_cluster_open(&setup, 0, &cluster) || ordup_cluster_start(cluster))
+    if (ordup_cluster_open(&setup, 0, &opened) || ordup_cluster_start(opened))
         fail("the cluster is not open");
     ordup_handle_close(&setup);
+    return opened;
 }
 
-static void close_cluster(void) {
-    if (ordup_cluster_finish(cluster, ORDUP_FOREVER) || ordup_cluster_close(cluster))
-        fail("the cluster is not closed");
-    ordup_cluster_free(cluster);
-}
-
-/* ---- a plain mutex and an array ---- */
-
-static struct plain {
-    _Alignas(64) pthread_mutex_t lock;
-    int64_t values[OBJECTS];
-    uint64_t applied;
-    pthread_cond_t sent;
-} plain[SITES];
-static pthread_mutex_t log_lock = PTHREAD_MUTEX_INITIALIZER;
-static pthread_cond_t told = PTHREAD_COND_INITIALIZER;
-static uint64_t logged, applied_by[SITES];
-static int plain_stops;
-
-/* ---- threads ---- */
-
-struct job { int at; uint64_t count; void (*make)(struct job *); int64_t sum; };
-static _Atomic int over;
-
-static void *run_job(void *given) {
-    struct job *job = given;
-    job->make(job);
-    return NULL;
-}
-
-/* How many seconds something takes, and how many of the processors. */
-struct took { double passed, processors; };
-#define LONG {1e9, 1e9}
-
-/* How many seconds so many threads take, each with as much to do. */
-static struct took time_jobs(void (*make)(struct job *), int threads, uint64_t count, int is_apart) {
-    pthread_t them[16];
-    struct job jobs[16];
-    double begun = seconds(CLOCK_MONOTONIC), used = seconds(CLOCK_PROCESS_CPUTIME_ID);
-    for (int i = 0; i < threads; i++) {
-        jobs[i] = (struct job){is_apart ? i % SITES : 0, count, make, 0};
-        pthread_create(&them[i], NULL, run_job, &jobs[i]);
-    }
-    for (int i = 0; i < threads; i++)
-        pthread_join(them[i], NULL);
-    return (struct took){seconds(CLOCK_MONOTONIC) - begun, seconds(CLOCK_PROCESS_CPUTIME_ID) - used};
-}
-
-static void read_ordup(struct job *job) {
-    ordup_session session = ORDUP_SESSION;
+static void read_ordup(struct caller *it) {
     ordup_seen seen;
-    for (uint64_t i = 0; i < job->count; i++) {
-        if (ordup_cluster_read(cluster, &session, (uint32_t)job->at, i % OBJECTS, &seen) != ORDUP_DONE)
+    for (uint32_t i = 0; i < OBJECTS; i++) {
+        if (ordup_cluster_read(cluster, &it->session, it->at, i, &seen))
             fail("a read");
-        job->sum += seen.value;
+        it->sum += seen.value;
     }
 }
 
-static void read_plain(struct job *job) {
-    struct plain *it = &plain[job->at];
-    uint64_t seen = 0;
-    for (uint64_t i = 0; i < job->count; i++) {
-        pthread_mutex_lock(&it->lock);
-        job->sum += it->values[i % OBJECTS];
-        if (it->applied > seen)
-            seen = it->applied;
-        pthread_mutex_unlock(&it->lock);
-    }
-    job->sum += (int64_t)seen;
-}
-
-static void update_ordup(struct job *job) {
-    ordup_session session = ORDUP_SESSION;
+static void update_ordup(struct caller *it) {
     uint64_t number;
-    for (uint64_t i = 0; i < job->count && !over; i++) {
-        ordup_change change = {(uint32_t)i % OBJECTS, ORDUP_ADD, i & 1 ? -1 : 1};
-        if (ordup_cluster_propose(cluster, &session, &change, 1, ORDUP_FOREVER, &number) != ORDUP_DONE)
+    for (uint32_t i = 0; i < OBJECTS; i++) {
+        ordup_change change = {i, ORDUP_ADD, i & 1 ? -1 : 1};
+        if (ordup_cluster_propose(cluster, &it->session, &change, 1, ORDUP_FOREVER, &number))
             fail("an update");
     }
 }
 
-static void update_plain(struct job *job) {
-    for (uint64_t i = 0; i < job->count && !over; i++) {
-        for (int at = 0; at < SITES; at++) {
-            pthread_mutex_lock(&plain[at].lock);
-            plain[at].values[i % OBJECTS] += i & 1 ? -1 : 1;
-            plain[at].applied++;
-            pthread_mutex_unlock(&plain[at].lock);
-        }
+static double idle(double passed) {
+    ordup_session session = ORDUP_SESSION;
+    ordup_change change = {0, ORDUP_ADD, 1};
+    uint64_t number;
+    if (ordup_cluster_propose(cluster, &session, &change, 1, ORDUP_FOREVER, &number))
+        fail("an update");
+    rest(0.1);
+    double used = seconds(CLOCK_PROCESS_CPUTIME_ID);
+    rest(passed);
+    return seconds(CLOCK_PROCESS_CPUTIME_ID) - used;
+}
+
+/* How many bytes are resident. */
+static double resident(void) {
+    long pages;
+    FILE *file = fopen("/proc/self/statm", "r");
+    if (!file || fscanf(file, "%*d %ld", &pages) != 1)
+        fail("statm");
+    fclose(file);
+    return (double)pages * (double)sysconf(_SC_PAGESIZE);
+}
+
+static double of_a_cluster(void) {
+    double before = resident();
+    for (int i = 0; i < CLUSTERS; i++)
+        open_cluster(-1);
+    return (resident() - before) / CLUSTERS;
+}
+
+static double of_an_update(void) {
+    struct caller it = {.most = UPDATES};
+    double before = resident();
+    for (; it.made < UPDATES; it.made += OBJECTS)
+        update_ordup(&it);
+    if (ordup_cluster_finish(cluster, ORDUP_FOREVER))
+        fail("the end");
+    return (resident() - before) / (double)it.made;
+}
+
+/* ---- a plain lock and an array ---- */
+
+static struct plain {
+    _Alignas(128) pthread_mutex_t lock;
+    int64_t values[OBJECTS];
+    uint64_t applied;
+    pthread_cond_t sent;
+} plain[SITES];
+
+static void read_plain(struct caller *it) {
+    struct plain *here = &plain[it->at];
+    for (int i = 0; i < OBJECTS; i++) {
+        pthread_mutex_lock(&here->lock);
+        it->sum += here->values[i];
+        if (here->applied > it->session.seen)
+            it->session.seen = here->applied;
+        pthread_mutex_unlock(&here->lock);
     }
 }
 
-/* A round of the plain program: the log grows, four threads that sleep apply it, and the last wakes the caller. */
-static void apply_plain(struct job *job) {
+static void apply_plain(struct plain *here, int object) {
+    pthread_mutex_lock(&here->lock);
+    here->values[object] += object & 1 ? -1 : 1;
+    here->applied++;
+    pthread_mutex_unlock(&here->lock);
+}
+
+static void update_plain(struct caller *it) {
+    (void)it;
+    for (int i = 0; i < OBJECTS; i++)
+        for (int at = 0; at < SITES; at++)
+            apply_plain(&plain[at], i);
+}
+
+/* A round: the log grows, four threads that sleep apply it, and wake the caller. */
+static pthread_mutex_t log_lock = PTHREAD_MUTEX_INITIALIZER;
+static pthread_cond_t told = PTHREAD_COND_INITIALIZER;
+static uint64_t logged, told_by[SITES], may_lag;
+static int is_stopped;
+
+static void *apply_all(void *given) {
+    struct plain *here = given;
+    uint64_t *tells = &told_by[here - plain];
     pthread_mutex_lock(&log_lock);
     for (;;) {
-        while (applied_by[job->at] == logged && !plain_stops)
-            pthread_cond_wait(&plain[job->at].sent, &log_lock);
-        if (applied_by[job->at] == logged)
+        while (*tells == logged && !is_stopped)
+            pthread_cond_wait(&here->sent, &log_lock);
+        if (*tells == logged)
             break;
         pthread_mutex_unlock(&log_lock);
-        pthread_mutex_lock(&plain[job->at].lock);
-        plain[job->at].values[0]++;
-        pthread_mutex_unlock(&plain[job->at].lock);
+        apply_plain(here, 0);
         pthread_mutex_lock(&log_lock);
-        applied_by[job->at]++;
+        ++*tells;
         pthread_cond_broadcast(&told);
     }
     pthread_mutex_unlock(&log_lock);
+    return NULL;
 }
-
-static uint64_t may_lag;
 
 static int all_have(uint64_t number) {
     for (int at = 0; at < SITES; at++)
-        if (applied_by[at] + may_lag < number)
+        if (told_by[at] + may_lag < number)
             return 0;
     return 1;
 }
 
-static void round_plain(struct job *job) {
-    for (uint64_t i = 0; i < job->count; i++) {
+static void round_plain(struct caller *it) {
+    (void)it;
+    for (int i = 0; i < OBJECTS; i++) {
         pthread_mutex_lock(&log_lock);
         uint64_t number = ++logged;
         for (int at = 0; at < SITES; at++)
@@ -190,155 +244,57 @@ static void round_plain(struct job *job) {
     }
 }
 
-static struct took time_rounds_plain(int threads, uint64_t count, uint64_t lag) {
+static double rounds_plain(int threads, uint64_t lag, double passed) {
     pthread_t appliers[SITES];
-    struct job jobs[SITES];
     may_lag = lag;
-    logged = 0;
-    plain_stops = 0;
-    for (int at = 0; at < SITES; at++) {
-        applied_by[at] = 0;
-        jobs[at] = (struct job){at, 0, apply_plain, 0};
-        pthread_create(&appliers[at], NULL, run_job, &jobs[at]);
-    }
-    struct took took = time_jobs(round_plain, threads, count, 0);
+    for (int at = 0; at < SITES; at++)
+        if (pthread_create(&appliers[at], NULL, apply_all, &plain[at]))
+            fail("a thread is refused");
+    double made = rate(round_plain, threads, 0, UINT64_MAX, NULL, passed);
     pthread_mutex_lock(&log_lock);
-    plain_stops = 1;
+    is_stopped = 1;
     for (int at = 0; at < SITES; at++)
         pthread_cond_signal(&plain[at].sent);
     pthread_mutex_unlock(&log_lock);
     for (int at = 0; at < SITES; at++)
         pthread_join(appliers[at], NULL);
-    return took;
+    return made;
 }
 
-static struct took time_rounds_ordup(int threads, uint64_t count, int64_t limit) {
-    open_cluster(limit);
-    struct took took = time_jobs(update_ordup, threads, count, 0);
-    close_cluster();
-    return took;
-}
+/* ---- loads ---- */
 
-/* ---- rows ---- */
-
-/* A row, of what `by` of them took in all. */
-static void print_row(const char *kind, int threads, struct took ordup, struct took other, double by, const char *unit) {
-    printf("| %s | %d | %.1f %s | %.1f %s | %.2f ", kind, threads, ordup.passed / by, unit, other.passed / by, unit,
-           ordup.passed / other.passed);
-    printf("| %.1f %s | %.1f %s | %.2f |\n", ordup.processors / by, unit, other.processors / by, unit,
-           ordup.processors / other.processors);
-    fflush(stdout);
-}
-
-static void least(struct took *is, struct took now) {
-    if (now.passed < is->passed)
-        is->passed = now.passed;
-    if (now.processors < is->processors)
-        is->processors = now.processors;
-}
-
-static void reads(const char *kind, int threads, uint64_t count, int is_apart) {
-    struct took ordup = LONG, other = LONG;
-    open_cluster(-1);
-    for (int i = 0; i < READ_RUNS; i++) {
-        least(&ordup, time_jobs(read_ordup, threads, count, is_apart));
-        least(&other, time_jobs(read_plain, threads, count, is_apart));
+static double measure(int is_ordup, const char *load, int threads, double passed) {
+    int64_t limit = -1;
+    sscanf(load, "round-%ld", &limit);
+    if (is_ordup && !strcmp(load, "memory"))
+        return of_a_cluster();
+    if (is_ordup) {
+        cluster = open_cluster(strcmp(load, "idle") ? limit : 0);
+        most_updates = 900000;
     }
-    close_cluster();
-    print_row(kind, threads, ordup, other, (double)count * 1e-9, "ns");
-}
-
-static void reads_beside(int threads, uint64_t count) {
-    struct took took[2] = {LONG, LONG};
-    for (int i = 0; i < RUNS; i++) {
-        for (int is_plain = 0; is_plain < 2; is_plain++) {
-            pthread_t writer;
-            struct job job = {0, 900000, is_plain ? update_plain : update_ordup, 0};
-            open_cluster(-1);
-            over = 0;
-            pthread_create(&writer, NULL, run_job, &job);
-            least(&took[is_plain], time_jobs(is_plain ? read_plain : read_ordup, threads, count, 1));
-            over = 1;
-            pthread_join(writer, NULL);
-            close_cluster();
-        }
-    }
-    over = 0;
-    print_row("reads-beside", threads, took[0], took[1], (double)count * 1e-9, "ns");
-}
-
-static void updates(int threads, uint64_t count) {
-    struct took ordup = LONG, other = LONG;
-    for (int i = 0; i < RUNS; i++) {
-        least(&ordup, time_rounds_ordup(threads, count, -1));
-        least(&other, time_jobs(update_plain, threads, count, 0));
-    }
-    print_row("update", threads, ordup, other, (double)count * threads * 1e-9, "ns");
-}
-
-static void rounds(const char *kind, int threads, uint64_t count, int64_t limit) {
-    struct took ordup = LONG, other = LONG;
-    for (int i = 0; i < RUNS; i++) {
-        least(&ordup, time_rounds_ordup(threads, count, limit));
-        least(&other, time_rounds_plain(threads, count, (uint64_t)limit));
-    }
-    print_row(kind, threads, ordup, other, (double)count * threads * 1e-6, "µs");
-}
-
-static void idle(void) {
-    ordup_session session = ORDUP_SESSION;
-    ordup_change change = {0, ORDUP_ADD, 1};
-    uint64_t number;
-    open_cluster(0);
-    ordup_cluster_propose(cluster, &session, &change, 1, ORDUP_FOREVER, &number);
-    usleep(100000);
-    double cpu = seconds(CLOCK_PROCESS_CPUTIME_ID);
-    sleep(2);
-    printf("| idle | %d | | | | %.4f s | | |\n", SITES, seconds(CLOCK_PROCESS_CPUTIME_ID) - cpu);
-    close_cluster();
-}
-
-static void memory(void) {
-    struct job job = {0, 100000, update_ordup, 0};
-    size_t before = mallinfo2().uordblks;
-    open_cluster(-1);
-    size_t opened = mallinfo2().uordblks;
-    update_ordup(&job);
-    ordup_cluster_finish(cluster, ORDUP_FOREVER);
-    printf("| memory | %d | %zu B, and %.1f B for each update | | | | | |\n", SITES, opened - before,
-           (double)(mallinfo2().uordblks - opened) / (double)job.count);
-    close_cluster();
+    if (!strncmp(load, "reads-", 6))
+        return rate(is_ordup ? read_ordup : read_plain, threads, strcmp(load, "reads-one") != 0, UINT64_MAX,
+                    strcmp(load, "reads-beside") ? NULL : is_ordup ? update_ordup : update_plain, passed);
+    if (!strcmp(load, "update") || (is_ordup && limit >= 0))
+        return rate(is_ordup ? update_ordup : update_plain, threads, 0, most_updates / (uint64_t)threads, NULL, passed);
+    if (limit >= 0)
+        return rounds_plain(threads, (uint64_t)limit, passed);
+    if (is_ordup && !strcmp(load, "idle"))
+        return idle(passed);
+    if (is_ordup && !strcmp(load, "memory-update"))
+        return of_an_update();
+    fail("there is no such load");
+    return 0;
 }
 
 int main(int count, char **words) {
+    int threads = count == 5 ? atoi(words[3]) : 0;
+    if (threads < 1 || threads > 16)
+        fail("usage: cluster ordup|array LOAD THREADS SECONDS");
     for (int at = 0; at < SITES; at++) {
         pthread_mutex_init(&plain[at].lock, NULL);
         pthread_cond_init(&plain[at].sent, NULL);
     }
-    printf("| kind | threads | ordup | plain | ratio | ordup, processors | plain | ratio |\n|---|--:|--:|--:|--:|--:|--:|--:|\n");
-    for (int i = 1; i <= 4; i *= 4) {
-        const char *const kinds[] = {"reads-own", "reads-one", "reads-beside", "update", "round-0", "round-10"};
-        for (int kind = 0; kind < 6; kind++) {
-            int is_wanted = count < 2;
-            for (int word = 1; word < count; word++)
-                is_wanted |= !strcmp(words[word], kinds[kind]);
-            if (!is_wanted)
-                continue;
-            if (kind == 0)
-                reads(kinds[kind], i, 200000, 1);
-            else if (kind == 1)
-                reads(kinds[kind], i, 200000 / (uint64_t)i, 0);
-            else if (kind == 2)
-                reads_beside(i, 300000);
-            else if (kind == 3)
-                updates(i, 100000 / (uint64_t)i);
-            else
-                rounds(kinds[kind], i, (kind == 4 ? 2000 : 10000) / (uint64_t)i, kind == 4 ? 0 : 10);
-        }
-    }
-    if (count < 2 || !strcmp(words[1], "idle"))
-        idle();
-    if (count < 2 || !strcmp(words[1], "memory"))
-        memory();
+    printf("%.9g\n", measure(!strcmp(words[1], "ordup"), words[2], threads, atof(words[4])));
     return 0;
 }

@@ -5,6 +5,8 @@
 //	GET  /metrics                        the numbers of the store, for Prometheus
 //
 // An answer tells how many updates it has seen, as Ordup-Seen. A client that sends this back sees its own sales at each site.
+//
+// `go run ./stock` serves at 127.0.0.1:8080, until it is interrupted.
 package main
 
 import (
@@ -17,6 +19,7 @@ import (
 	"os"
 	"os/signal"
 	"strconv"
+	"strings"
 	"time"
 
 	"ordup.dev/ordup/cluster"
@@ -106,18 +109,32 @@ func answer(w http.ResponseWriter, session *cluster.Session, found interface{}, 
 	}
 }
 
+// metrics writes the live numbers, those of a name together.
 func (s *service) metrics(w http.ResponseWriter, _ *http.Request) {
-	numbers := s.store.Numbers()
-	fmt.Fprintf(w, "# TYPE ordup_updates_total counter\nordup_updates_total %d\n", numbers.Length)
-	fmt.Fprintf(w, "# TYPE ordup_acknowledged_total counter\nordup_acknowledged_total %d\n", numbers.Acknowledged)
+	numbers, rows := s.store.Numbers(), map[string][]string{}
+	add := func(name, labels string, value uint64) {
+		rows[name] = append(rows[name], fmt.Sprintf("ordup_%s%s %d\n", name, labels, value))
+	}
+	add("updates_total", "", numbers.Length)
+	add("acknowledged_updates_total", "", numbers.Acknowledged)
 	for name, at := range s.sites {
+		labels := fmt.Sprintf("{site=%q}", name)
 		if it, err := s.store.SiteNumbers(at); err == nil {
-			fmt.Fprintf(w, "ordup_site_applied_total{site=%q} %d\nordup_site_rounds_total{site=%q} %d\n", name, it.Applied, name, it.Rounds)
+			add("site_applied_updates_total", labels, it.Applied)
+			add("site_rounds_total", labels, it.Rounds)
 		}
 		lags, _ := s.store.Lags(at)
 		for _, lag := range lags {
-			fmt.Fprintf(w, "ordup_site_lag{site=%q} %d\nordup_site_limit{site=%q} %d\n", name, lag.Weight, name, lag.Amount)
+			add("site_lag_bags", labels, lag.Weight)
+			add("site_limit_bags", labels, lag.Amount)
 		}
+	}
+	for name, lines := range rows {
+		kind := "gauge"
+		if strings.HasSuffix(name, "_total") {
+			kind = "counter"
+		}
+		fmt.Fprintf(w, "# TYPE ordup_%s %s\n%s", name, kind, strings.Join(lines, ""))
 	}
 }
 

@@ -85,10 +85,10 @@ func TestASaleIsSeenAtEachSite(t *testing.T) {
 			t.Errorf("%s: %d %q", path, status, body)
 		}
 	}
-	if _, body := c.ask("GET", "/metrics"); !strings.Contains(body, "ordup_updates_total 1\n") || !strings.Contains(body, "ordup_acknowledged_total 1\n") {
+	if _, body := c.ask("GET", "/metrics"); !strings.Contains(body, "ordup_updates_total 1\n") || !strings.Contains(body, "ordup_acknowledged_updates_total 1\n") {
 		t.Error(body)
 	}
-	if _, body := c.ask("GET", "/metrics"); !strings.Contains(body, `ordup_site_lag{site="north"} `) || !strings.Contains(body, `ordup_site_limit{site="south"} 20`) {
+	if _, body := c.ask("GET", "/metrics"); !strings.Contains(body, `ordup_site_lag_bags{site="north"} `) || !strings.Contains(body, `ordup_site_limit_bags{site="south"} 20`) {
 		t.Error(body)
 	}
 }

@@ -8,7 +8,6 @@
 //! updates the answer misses; these move at most 10 bags in the shop, where a sale that would move more waits. In the yard they are any.
 
 use ordup::cluster::{Builder, Cluster, Error, ObjectId, Scope, Session, SiteId};
-use std::fmt::Write as _;
 use std::io::{self, BufRead, BufReader, Write};
 use std::net::{TcpListener, TcpStream};
 use std::sync::atomic::{AtomicBool, Ordering};
@@ -81,19 +80,31 @@ impl Service {
         })
     }
 
+    /// The live numbers in the text form of Prometheus.
     fn metrics(&self) -> Result<String, Error> {
         let (mut text, numbers) = (String::new(), self.cluster.numbers());
-        let mut row = |name: &str, labels: &str, value: u64| writeln!(text, "ordup_{name}{labels} {value}").expect("a string grows");
-        row("updates_total", "", numbers.length);
-        row("acknowledged_updates_total", "", numbers.acknowledged);
+        let counts = [("updates_total", numbers.length), ("acknowledged_updates_total", numbers.acknowledged)];
+        let mut rows: Vec<_> = counts.map(|(what, count)| (what, String::new(), count)).into();
         for (name, site) in SITES.iter().zip(&self.sites) {
             let (of, labels) = (self.cluster.site_numbers(*site)?, format!("{{site=\"{name}\"}}"));
-            let counts = [("sent", of.sent), ("applied", of.applied), ("reported", of.reported), ("awaited", of.rounds)];
-            counts.iter().for_each(|(what, count)| row(&format!("{what}_updates_total"), &labels, *count));
+            let counts = [
+                ("sent_updates_total", of.sent),
+                ("applied_updates_total", of.applied),
+                ("reported_updates_total", of.reported),
+                ("awaited_updates_total", of.rounds),
+            ];
+            rows.extend(counts.map(|(what, count)| (what, labels.clone(), count)));
             for lag in self.cluster.lags(*site)? {
-                row("lag_bags", &labels, lag.lag);
-                row("limit_bags", &labels, lag.limit);
+                rows.extend([("lag_bags", labels.clone(), lag.lag), ("limit_bags", labels.clone(), lag.limit)]);
             }
+        }
+        rows.sort(); // the lines of a name stand together
+        for (at, (name, labels, value)) in rows.iter().enumerate() {
+            if at == 0 || rows[at - 1].0 != *name {
+                let kind = if name.ends_with("_total") { "counter" } else { "gauge" };
+                text += &format!("# TYPE ordup_{name} {kind}\n");
+            }
+            text += &format!("ordup_{name}{labels} {value}\n");
         }
         Ok(text)
     }
@@ -108,7 +119,8 @@ impl Service {
         let mut words = line.split(' ');
         let answer = self.answer(words.next().unwrap_or(""), words.next().unwrap_or(""));
         let (status, text) = answer.unwrap_or((404, "{\"why\": \"there is no such thing\"}\n".into()));
-        write!(&stream, "HTTP/1.1 {status} -\r\nContent-Length: {}\r\nConnection: close\r\n\r\n{text}", text.len())
+        let kind = if text.starts_with('{') { "application/json" } else { "text/plain; version=0.0.4" };
+        write!(&stream, "HTTP/1.1 {status} -\r\nContent-Type: {kind}\r\nContent-Length: {}\r\nConnection: close\r\n\r\n{text}", text.len())
     }
 }
 

@@ -7,28 +7,35 @@ PAGE = "docs/EMBEDDING.md"
 TOP = Path(__file__).resolve().parent.parent
 
 
-def only(pattern, what):
-    """What the page has once by a pattern."""
-    found = re.findall(pattern, (TOP / PAGE).read_text(encoding="utf-8"), re.M | re.S)
+def section(page, heading=""):
+    """What a page has under a heading, up to the next one that is as high."""
+    text = (TOP / page).read_text(encoding="utf-8")
+    return text[text.index(f"\n## {heading}\n") + 1 :].partition("\n## ")[0] if heading else text
+
+
+def only(pattern, what, page=PAGE, heading=""):
+    """What a page has once by a pattern, under a heading."""
+    found = re.findall(pattern, section(page, heading), re.M | re.S)
     if len(found) != 1:
-        raise ValueError(f"{PAGE} has {len(found)} times {what}, and not once")
+        raise ValueError(f"{page} has {len(found)} times {what}, and not once")
     return found[0]
 
 
 def example(language):
-    """The example of a language, and what it prints: the block after it."""
-    return only(rf"^```{language}\n(.*?)^```\n.*?^```text\n(.*?)^```\n", f"an example in {language}")
+    """The example of a store of lines in a language, and what it prints: the block after it."""
+    return only(rf"^```{language}\n(.*?)^```\n.*?^```text\n(.*?)^```\n", f"an example in {language}", heading="A store of lines")
 
 
 def of_threads(language):
-    """The example of a language in README, and what it prints."""
-    page = (TOP / "README.md").read_text(encoding="utf-8")
-    return re.search(rf"^```{language}\n(.*?)^```\n", page, re.M | re.S)[1], re.search(r"with (\d+) printed by each", page)[1] + "\n"
+    """The example of a cluster in a language, and what it prints."""
+    where, told = ((PAGE, "A cluster"), "Each prints") if language in ("c", "go") else (("README.md", "From threads"), "each printing")
+    return only(rf"^```{language}\n(.*?)^```\n", f"a cluster in {language}", *where), only(rf"{told} (\d+)", "what is printed", *where) + "\n"
 
 
 def command(language):
     """The command by which the page runs the example of a language, which stands between it and what it prints."""
-    return only(rf"^```{language}\n.*?^```\n(?:(?!^```text).)*?^```proof\n(.*?)\n```\n", f"a command for {language}")
+    return only(rf"^```{language}\n.*?^```\n(?:(?!^```text).)*?^```proof\n(.*?)\n```\n", f"a command for {language}",
+                heading="A store of lines")
 
 
 def quoted(begin):

@@ -70,7 +70,7 @@ def completion(commands):
 def description(name, version, summary, prefix, library):
     """What pkg-config reads of the library."""
     return (f"prefix={prefix}\nlibdir={library}\nincludedir=${{prefix}}/include\n\nName: {name}\nDescription: {summary}\n"
-            f"Version: {version}\nLibs: -L${{libdir}} -lordup\nCflags: -I${{includedir}}\n")
+            f"Version: {version}\nLibs: -L${{libdir}} -lordup\nLibs.private: -pthread\nCflags: -I${{includedir}}\n")
 
 
 def pages():
@@ -78,6 +78,17 @@ def pages():
     found = [TOP / "README.md", TOP / "CHANGELOG.md"]
     for folder in ("docs", "examples"):
         found += sorted(it for it in (TOP / folder).iterdir() if it.is_file())
+    return {str(it.relative_to(TOP)): it.read_bytes() for it in found}
+
+
+# The sources of the bindings that are built with the program, and the examples of the one that pip installs.
+BINDINGS = ("c/series.c", "rust/Cargo.toml", "rust/build.rs", "rust/src/**/*.rs", "rust/examples/*.rs", "rust/tests/*.rs", "go/go.mod",
+            "go/**/*.go", "python/examples/*.py")
+
+
+def bindings():
+    """The sources of the bindings, at the places that they have in the repository."""
+    found = [it for pattern in BINDINGS for it in sorted(TOP.glob(f"clients/{pattern}"))]
     return {str(it.relative_to(TOP)): it.read_bytes() for it in found}
 
 
@@ -101,7 +112,7 @@ class Contents:
         told = (epoch, self.version, self.summary)
         self.pages_of_manual = {
             "man1/ordup.1": manual.page_of_program(helps, self.commands, *told).encode("utf-8"),
-            **{f"man3/{it}.3": manual.page_of_library(it, self.headers[f"{it}.h"], *told).encode("utf-8") for it in ("ordup", "ordup_cluster")},
+            **{f"man3/{it[:-2]}.3": manual.page_of_library(it[:-2], text, epoch, self.version).encode("utf-8") for it, text in self.headers.items()},
         }
 
     def below(self, library="lib", where=WHERE_IT_LIES, pack=None):
@@ -120,5 +131,7 @@ class Contents:
         for name, page in self.pages_of_manual.items():
             made[f"share/man/{name}" + (".gz" if pack else "")] = pack(page) if pack else page
         made.update((f"share/doc/ordup/{name}", page) for name, page in pages().items())
+        made["share/doc/ordup/clients"] = "../../ordup/clients"
+        made.update((f"share/ordup/{name}", source) for name, source in bindings().items())
         others = [Entry(path, 0o777 if isinstance(it, str) else 0o644, it) for path, it in made.items()]
         return [Entry("bin/ordup", 0o755, self.program), *others]

@@ -88,7 +88,7 @@ def page_of_program(helps, commands, epoch, version, summary):
     made += ".SH COMMANDS\n" + "".join(job(name, it) for name, it in helps.items() if name)
     made += ".SH OPTIONS\n" + items(headed.get("Options", "\\-\\-help"))
     made += ".SH EXIT STATUS\n" + paragraphs("\n\n".join(statuses))
-    return made + ".SH FILES\nThe pages and the examples that are named here lie in share/doc/ordup.\n.SH SEE ALSO\n.BR ordup (3)\n"
+    return made + ".SH FILES\nThe pages and the examples that are named here lie in share/doc/ordup.\n.SH SEE ALSO\n.BR ordup (3),\n.BR ordup_cluster (3)\n"
 
 
 def page_of_node(helped, helps, text, statuses, epoch, version, summary):
@@ -111,16 +111,17 @@ def comment_of(text):
     return "\n".join(re.sub(r"^ \* ?", "", line) for line in text.split("\n"))
 
 
-def page_of_library(name, header, epoch, version, summary):
+def page_of_library(name, header, epoch, version):
     """A page of section 3: each comment of a header, with the declaration that it stands above."""
-    opening = re.match(r"/\*(.*?)\*/", header, re.S)[1]
+    summary, opening = re.match(r"/\* ordup: an? (.*?)\.\s(.*?)\*/", header, re.S).groups()
+    others = [it for it in ("ordup", "ordup_cluster", "ordup_holds") if it != name]
     declared = header.partition('extern "C" {\n#endif\n')[2].partition("#ifdef __cplusplus\n}")[0]
     chunks = re.findall(r"^/\* ?(.*?) ?\*/\n(.*?)(?=^/\*|\Z)", declared, re.M | re.S)
-    calls = [re.sub(r"\s+", " ", code).strip() for _, code in chunks if re.match(r"\w+ ordup_\w+\(", code)]
-    made = head(name, 3, epoch, version, summary) + f".SH SYNOPSIS\n.nf\n#include <{name}.h>\n"
+    calls = [re.sub(r"\s+", " ", it) for _, code in chunks for it in re.findall(r"^\w+ ordup_\w+\(.*?;", code, re.M | re.S)]
+    made = head(name, 3, epoch, version, comment_of(summary)) + f".SH SYNOPSIS\n.nf\n#include <{name}.h>\n"
     made += "".join(f"\n{roff(it)}" for it in calls)
     made += "\n\ncc FILE.c $(pkg\\-config \\-\\-cflags \\-\\-libs ordup)\n.fi\n.SH DESCRIPTION\n"
-    made += paragraphs(comment_of(opening).partition("\n")[2])
+    made += paragraphs(comment_of(opening))
     for comment, code in chunks:
         lines = code.strip("\n").split("\n")
         if not code.strip():
@@ -128,4 +129,4 @@ def page_of_library(name, header, epoch, version, summary):
             continue
         named = re.search(r"^(?:#define|typedef struct|\w+) (ORDUP_\w+|ordup_\w+)|^(enum)", lines[0])
         made += f".SS {named[1] or 'Statuses'}\n" + literal(lines) + paragraphs(comment_of(comment))
-    return made + ".SH SEE ALSO\n.BR ordup (1)\n"
+    return made + ".SH SEE ALSO\n.BR ordup (1)" + "".join(f",\n.BR {it} (3)" for it in others) + "\n"

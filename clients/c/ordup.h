@@ -11,7 +11,7 @@
  *     ordup_close(&store);
  *
  * Link with libordup.a, or with libordup.so. Both need nothing but the C library, Linux, and a 64-bit x86 processor of the level
- * x86-64-v2. The archive is one object, which is position independent and shows only the names of this file; in a shared library
+ * x86-64-v2. The archive is position independent and shows only the names of ordup's headers; in a shared library
  * -Wl,--exclude-libs,ALL hides these.
  *
  * The library does what this file says as long as its caller keeps to this:
@@ -23,7 +23,7 @@
  * - A call has 128 KB of stack. With less the system ends the process.
  * - malloc, realloc and free are of one allocator, whose blocks are aligned to 16 bytes.
  *
- * The library starts no thread, locks nothing, and has no state outside the stores. The caller has the buffers, and the 16 bytes of a
+ * These functions start no thread, lock nothing, and have no state outside the stores. The caller has the buffers, and the 16 bytes of a
  * store. The store takes the rest by malloc: for each update, for each open query, and for answers that were not given yet. A log has
  * at most 1,000,000 updates; the successor begins with what ordup_next gives. How many bytes a store takes in all is not limited.
  */

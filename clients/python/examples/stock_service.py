@@ -21,7 +21,7 @@ from pathlib import Path
 from typing import Any, Dict, Iterator, List, Tuple
 from urllib.parse import parse_qs, urlsplit
 
-from ordup import Behind, Cluster, NotYet, Refused, Session, Site, Stopped, Unmet, add, at_least
+from ordup import Behind, Cluster, NotYet, Refused, Scope, Session, Site, Stopped, Unmet, add, at_least
 
 SECONDS = 1.0  # the most that a request waits for a site
 UNKNOWN = ("UnknownObject", "UnknownSite")
@@ -29,6 +29,10 @@ Answer = Tuple[int, Dict[str, Any]]
 
 # The north misses at most 20 acknowledged updates, and the sales that it has not heard of are at most 10 bags. The south may lag.
 cluster = Cluster(objects={"tea": 100, "sold": 0}, sites={"north": Site(64, {"count": 20, ("object", "tea"): 10}), "south": Site(256)})
+
+
+def words_of(scope: Scope) -> str:
+    return scope if isinstance(scope, str) else ":".join(scope)
 
 
 def sell(session: Session, name: str, bags: int) -> Answer:
@@ -43,7 +47,7 @@ def deliver(session: Session, name: str, bags: int) -> Answer:
 def stock(session: Session, site: str, name: str) -> Answer:
     acknowledged = cluster.numbers().acknowledged
     value, applied = cluster.read(session, site, name, SECONDS if session.seen else 0)
-    lags = {str(lag.scope): {"is": lag.weight, "at_most": lag.amount} for lag in cluster.lags(site)}
+    lags = {words_of(lag.scope): {"is": lag.weight, "at_most": lag.amount} for lag in cluster.lags(site)}
     return 200, {"value": value, "applied": applied, "missing_updates": max(0, acknowledged - applied), "lags": lags}
 
 
@@ -68,9 +72,8 @@ def metrics() -> Iterator[str]:
                             ("rounds_total", it.rounds)):
             rows.setdefault(f"site_{name}", []).append((f'{{site="{site}"}}', value))
         for lag in cluster.lags(site):
-            scope = lag.scope if isinstance(lag.scope, str) else ":".join(lag.scope)
             for name, value in (("lag", lag.weight), ("limit", lag.amount)):
-                rows.setdefault(f"site_{name}", []).append((f'{{site="{site}",scope="{scope}"}}', value))
+                rows.setdefault(f"site_{name}", []).append((f'{{site="{site}",scope="{words_of(lag.scope)}"}}', value))
     for name, values in rows.items():
         yield f"# TYPE ordup_{name} {'counter' if name.endswith('_total') else 'gauge'}\n"
         yield from (f"ordup_{name}{labels} {value}\n" for labels, value in values)

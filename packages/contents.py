@@ -112,7 +112,8 @@ class Contents:
         told = (epoch, self.version, self.summary)
         self.pages_of_manual = {
             "man1/ordup.1": manual.page_of_program(helps, self.commands, *told).encode("utf-8"),
-            **{f"man3/{it[:-2]}.3": manual.page_of_library(it[:-2], text, epoch, self.version).encode("utf-8") for it, text in self.headers.items()},
+            **{f"man3/{it[:-2]}.3": manual.page_of_library(it[:-2], text, epoch, self.version).encode("utf-8")
+               for it, text in self.headers.items()},
         }
 
     def below(self, library="lib", where=WHERE_IT_LIES, pack=None):

@@ -88,7 +88,8 @@ def page_of_program(helps, commands, epoch, version, summary):
     made += ".SH COMMANDS\n" + "".join(job(name, it) for name, it in helps.items() if name)
     made += ".SH OPTIONS\n" + items(headed.get("Options", "\\-\\-help"))
     made += ".SH EXIT STATUS\n" + paragraphs("\n\n".join(statuses))
-    return made + ".SH FILES\nThe pages and the examples that are named here lie in share/doc/ordup.\n.SH SEE ALSO\n.BR ordup (3),\n.BR ordup_cluster (3)\n"
+    made += ".SH FILES\nThe pages and the examples that are named here lie in share/doc/ordup.\n"
+    return made + ".SH SEE ALSO\n.BR ordup (3),\n.BR ordup_cluster (3)\n"
 
 
 def page_of_node(helped, helps, text, statuses, epoch, version, summary):

@@ -115,7 +115,8 @@
 //
 //	script       the form of an entry, and of an answer
 //	epoch        the core: what the script comes to, and the next entry. Pure
-//	engine       etcd: transactions, pages, watches, leases. No other package knows it
+//	engine       etcd: transactions, pages, watches, leases. No other package asks it
+//	embedded     starts an etcd in this process, for the command try alone
 //	primary      the process that writes or stands by
 //	site         the process that serves readers
 //	follower     how a primary that stands by and a site follow the script

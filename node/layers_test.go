@@ -10,6 +10,9 @@ import (
 	"testing"
 )
 
+// alone names the one package that imports another one.
+var alone = map[string]string{"go.etcd.io/etcd/embed": "embedded", "ordup.dev/node/internal/embedded": "command"}
+
 // A package imports those of the rows above it alone, by the table of docs/ARCHITECTURE.md, which has each but those for tests.
 func TestThePackagesStandOnOneAnotherOneWay(t *testing.T) {
 	page, err := os.ReadFile("../docs/ARCHITECTURE.md")
@@ -40,6 +43,9 @@ func TestThePackagesStandOnOneAnotherOneWay(t *testing.T) {
 			name := strings.TrimPrefix(path, "ordup.dev/node/internal/")
 			if name != path && row[name] >= row[own] && !strings.HasSuffix(file, "_test.go") {
 				t.Errorf("%s imports %s", file, name)
+			}
+			if by := alone[path]; by != "" && by != own {
+				t.Errorf("%s imports %s, which is for %s", file, path, by)
 			}
 		}
 	}

@@ -35,6 +35,7 @@ type command struct {
 // commands are those of the program.
 func commands() []command {
 	return []command{
+		{"try", "DECLARATIONS", "runs a primary, each declared site and etcd in this process, for trial and tests alone", trySettings},
 		{"primary", "", "takes updates and writes the script, or stands by for the primary that does", primarySettings},
 		{"site", "", "shows the values of a site to its readers", siteSettings},
 		{"fleet", "", "tells the place of several sites that have one name in the script", fleetSettings},

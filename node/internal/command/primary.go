@@ -25,19 +25,23 @@ type primaryOwn struct {
 
 func primarySettings(program *Program, set *settings.Set) func(context.Context, []string) error {
 	own := &primaryOwn{}
-	own.engine.add(set)
-	own.serving.add(set, "127.0.0.1:7002")
-	set.Text(&own.address, "address", "", "`ADDRESS` at which others reach this process: that of listen, if it has a host")
-	set.Text(&own.authority, "authority", "", "`FILE` in PEM with the authority of the certificates of other primaries")
-	set.Text(&own.archive, "archive", "", "`FOLDER` for the scripts of epochs that have ended")
-	set.Number(&own.copies, "copies", 2, 1, 16, "`NUMBER` of hosts that have such a script before the engine drops it")
-	set.Text(&own.declarations, "declarations", "", "`FILE` with the declarations that begin an empty script")
-	set.Number(&own.every, "every", 0, 0, epoch.MostEvery, "`NUMBER` of requests that an epoch takes: 0 stands for that of the script, or 100,000")
-	set.Number(&own.remembers, "remembers", 0, 0, epoch.MostEvery,
-		"`NUMBER` of epochs that a client is remembered: 0 stands for that of the script, or 10")
-	set.Number(&own.seconds, "remembers-seconds", 0, 0, epoch.MostSeconds,
-		"`NUMBER` of seconds that it is remembered at least: 0 stands for that of the script, or 600")
+	own.add(set)
 	return func(ctx context.Context, _ []string) error { return own.run(ctx, program) }
+}
+
+func (p *primaryOwn) add(set *settings.Set) {
+	p.engine.add(set)
+	p.serving.add(set, "127.0.0.1:7002")
+	set.Text(&p.address, "address", "", "`ADDRESS` at which others reach this process: that of listen, if it has a host")
+	set.Text(&p.authority, "authority", "", "`FILE` in PEM with the authority of the certificates of other primaries")
+	set.Text(&p.archive, "archive", "", "`FOLDER` for the scripts of epochs that have ended")
+	set.Number(&p.copies, "copies", 2, 1, 16, "`NUMBER` of hosts that have such a script before the engine drops it")
+	set.Text(&p.declarations, "declarations", "", "`FILE` with the declarations that begin an empty script")
+	set.Number(&p.every, "every", 0, 0, epoch.MostEvery, "`NUMBER` of requests that an epoch takes: 0 stands for that of the script, or 100,000")
+	set.Number(&p.remembers, "remembers", 0, 0, epoch.MostEvery,
+		"`NUMBER` of epochs that a client is remembered: 0 stands for that of the script, or 10")
+	set.Number(&p.seconds, "remembers-seconds", 0, 0, epoch.MostSeconds,
+		"`NUMBER` of seconds that it is remembered at least: 0 stands for that of the script, or 600")
 }
 
 func (p *primaryOwn) config(program *Program) (config primary.Config, err error) {

@@ -35,8 +35,10 @@ type servingSettings struct {
 	certificate, key                         string
 	clientTokens, siteTokens, operatorTokens string
 	connections, requests                    int64
-	server                                   atomic.Pointer[listen.Server]
-	guard                                    serve.Guard
+	// listener is where a trial listens for the process. Others have none, and listen at `listen`.
+	listener net.Listener
+	server   atomic.Pointer[listen.Server]
+	guard    serve.Guard
 }
 
 func (s *servingSettings) add(set *settings.Set, usual string) {
@@ -139,8 +141,10 @@ func (s *servingSettings) run(ctx context.Context, log *logs.Log, handler serve.
 	if err != nil {
 		return err
 	}
-	server, err := listen.Start(s.listen, secure, s.most(), handler, log)
-	if err != nil {
+	var server *listen.Server
+	if s.listener != nil {
+		server = listen.On(s.listener, secure, s.most(), handler, log)
+	} else if server, err = listen.Start(s.listen, secure, s.most(), handler, log); err != nil {
 		return exit.With(exit.Environment, err)
 	}
 	s.server.Store(server)

@@ -22,13 +22,17 @@ type siteOwn struct {
 
 func siteSettings(program *Program, set *settings.Set) func(context.Context, []string) error {
 	own := &siteOwn{}
-	own.engine.add(set)
-	own.serving.add(set, "127.0.0.1:7001")
-	own.telling.add(set, "primaries", "`ADDRESS,..` of the primaries, as http://10.0.0.1:7002")
-	set.Text(&own.name, "site", "", "`NAME` of the site")
-	set.Text(&own.fleet, "fleet", "", "`NAME` of its fleet in the script, where it is of one")
-	set.Text(&own.tell, "teller", "", "`ADDRESS` of the process of the fleet, which the site tells its places then")
+	own.add(set)
 	return func(ctx context.Context, _ []string) error { return own.run(ctx, program) }
+}
+
+func (s *siteOwn) add(set *settings.Set) {
+	s.engine.add(set)
+	s.serving.add(set, "127.0.0.1:7001")
+	s.telling.add(set, "primaries", "`ADDRESS,..` of the primaries, as http://10.0.0.1:7002")
+	set.Text(&s.name, "site", "", "`NAME` of the site")
+	set.Text(&s.fleet, "fleet", "", "`NAME` of its fleet in the script, where it is of one")
+	set.Text(&s.tell, "teller", "", "`ADDRESS` of the process of the fleet, which the site tells its places then")
 }
 
 func (s *siteOwn) config(program *Program) (config site.Config, err error) {

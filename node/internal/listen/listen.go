@@ -52,6 +52,11 @@ func Start(address string, secure *tls.Config, most int, handler http.Handler, e
 	if err != nil {
 		return nil, err
 	}
+	return On(listener, secure, most, handler, events), nil
+}
+
+// On serves so at an address that is listened at already.
+func On(listener net.Listener, secure *tls.Config, most int, handler http.Handler, events *logs.Log) *Server {
 	// Requests go on while the process ends, until Stop hastens them.
 	all, cancel := context.WithCancel(context.Background())
 	server := &Server{crowd: &crowd{Listener: listener, most: most}, ended: make(chan error, 1), hasten: cancel}
@@ -75,7 +80,7 @@ func Start(address string, secure *tls.Config, most int, handler http.Handler, e
 			server.ended <- server.server.Serve(server.crowd)
 		}
 	}()
-	return server, nil
+	return server
 }
 
 // Address is where the server listens.

@@ -22,7 +22,7 @@ enum { SHARED = CALLERS, STOCK = CALLERS + 2, OBJECTS = CALLERS + 3 };
 
 static ordup_cluster *cluster;
 static _Atomic int wrong, over;
-static _Atomic uint64_t done, waited, behind, queries, imported, relimits, samples_in_all, sales, unsold;
+static _Atomic uint64_t done, reads_in_all, waited, behind, queries, imported, relimits, samples_in_all, sales, unsold;
 static int sets, epochs;
 
 /* What each update added, by its number, to the caller's own object, to the shared ones, and to the stock. */
@@ -97,6 +97,7 @@ static void *call(void *given) {
             MUST(out.applied >= number && out.value == it->own && it->session.seen == out.applied);
             status = ordup_cluster_read_many_when_level(cluster, &it->session, it->me % SITES, all, 3, ORDUP_FOREVER, values, &applied);
             MUST(status == ORDUP_DONE && applied >= out.applied && values[0] == it->own);
+            reads_in_all += 2;
         }
     }
     return NULL;
@@ -119,6 +120,7 @@ static void *look(void *which) {
             continue;
         }
         MUST(status == ORDUP_DONE && out.applied >= seen && session.seen == out.applied);
+        reads_in_all++;
         MUST(object != STOCK || (out.value >= 0 && out.value <= FULL));
         if (object == SHARED || object == SHARED + 1) {
             MUST(out.value >= last[object - SHARED]);
@@ -323,10 +325,10 @@ int main(int count, char **words) {
     for (int reader = 0; reader < READERS; reader++)
         free(samples[reader]);
     free(changes);
-    printf("%lu updates, %lu settled later, %lu with conditions met, %lu not met, %lu limits changed, %lu reads compared, %lu behind, "
-           "%lu queries, %lu over: %s\n",
+    printf("%lu updates, %lu settled later, %lu with conditions met, %lu not met, %lu limits changed, %lu reads, %lu of them compared with "
+           "the log, %lu behind, %lu queries, %lu over: %s\n",
            (unsigned long)done, (unsigned long)waited, (unsigned long)sales, (unsigned long)unsold, (unsigned long)relimits,
-           (unsigned long)samples_in_all, (unsigned long)behind, (unsigned long)queries, (unsigned long)imported,
+           (unsigned long)reads_in_all, (unsigned long)samples_in_all, (unsigned long)behind, (unsigned long)queries, (unsigned long)imported,
            wrong ? "wrong" : "as promised");
     return wrong;
 }

@@ -3,7 +3,8 @@
 
 Threads that propose, read and query, with the values that they must see; each exception; Ctrl-C, signals, forks and ends amid a call;
 memory, a cluster at rest, and the examples. PROGRAM is `ordup`, which then audits the records. With --long the threads make a
-million updates, where they make 1,200 else.
+million updates, where they make 1,200 else, and tell what was done. Of the variables ORDUP_UPDATES says how many of them a caller makes in a
+cluster, ORDUP_EPOCHS how many clusters there are, and ORDUP_RECORDS names a folder that gets the records: EPOCH_SITE.csv.
 """
 
 import contextlib
@@ -17,6 +18,7 @@ import sys
 import threading
 import time
 import unittest
+from collections import Counter
 from concurrent.futures import ThreadPoolExecutor
 from pathlib import Path
 from unittest import mock
@@ -40,17 +42,19 @@ from test_header import Header  # unittest finds it here
 class Threads(ClusterCase):
     def test_reads_show_what_was_written_with_its_values(self):
         # Each update adds 1 to n, so what a site holds is how many updates it has applied.
-        limit, callers, updates, epochs = 3, 4, *((31_250, 8) if IS_LONG else (150, 2))
+        limit, callers = 3, 4
+        updates, epochs = (int(os.environ.get(name, usual[IS_LONG])) for name, usual in (("ORDUP_UPDATES", (150, 31_250)), ("ORDUP_EPOCHS", (2, 8))))
         objects = {"n": 0, **{f"x{caller}": 0 for caller in range(callers)}}
         sites = {"north": Site(4, {"count": limit}), "south": 64, "east": Site(1, {"all": 8}), "west": 16}
         series = {site: [] for site in sites}
 
         def work(cluster, caller, session, chance):
-            mine = f"x{caller}"
+            mine, done = f"x{caller}", Counter()
             for _ in range(updates):
                 if chance.random() < 0.1:
                     unmet = self.raised(Unmet, cluster.propose, session, {mine: add(1)}, conditions=[at_most(mine, written[caller])])
                     self.assertEqual(unmet.index, 0)
+                    done["conditions not met"] += 1
                 kept = [at_least("n", 1), at_most(mine, written[caller] + 1)]
                 number = cluster.propose(session, {"n": add(1), mine: add(1)}, conditions=kept)
                 self.assertGreaterEqual(session.seen, number)
@@ -61,10 +65,12 @@ class Threads(ClusterCase):
                 self.assertEqual(session.seen, applied)
                 written[caller] += 1
                 self.assertEqual(values[mine], written[caller])
+                done["reads"] += 1
                 with contextlib.suppress(Behind):
                     value, applied = cluster.read(session, chance.choice(list(sites)), "n")
                     self.assertGreaterEqual(applied, session.seen)
                     self.assertEqual(value, applied)
+                    done["reads"] += 1
                 if chance.random() < 0.2:
                     with cluster.query(chance.choice(list(sites)), limit=6) as query:
                         with contextlib.suppress(Refused):
@@ -72,16 +78,20 @@ class Threads(ClusterCase):
                             self.assertEqual(imported, total)
                             self.assertLessEqual(abs(value - query.end().place), imported)
                         self.assertLessEqual(query.end().total, 6)
+                    done["queries"] += 1
                 if chance.random() < 0.05:
                     with contextlib.suppress(Refused):
                         cluster.relimit("west", "count", chance.choice([2, 20]))
+                        done["limits changed"] += 1
+            return done
 
         def watch(cluster):
             while not ended.wait(0.001):
                 acknowledged = cluster.numbers().acknowledged
                 self.assertGreaterEqual(cluster.read(Session(), "north", "n").applied, acknowledged - limit)
 
-        sessions, written = [Session() for _ in range(callers)], [0] * callers
+        sessions, written, done = [Session() for _ in range(callers)], [0] * callers, Counter()
+        folder = os.environ.get("ORDUP_RECORDS")
         following = Cluster(objects=objects, sites=sites)
         for epoch in range(epochs):
             ended = threading.Event()
@@ -90,7 +100,7 @@ class Threads(ClusterCase):
                 works = [pool.submit(work, cluster, it, sessions[it], random.Random(epoch * 10 + it)) for it in range(callers)]
                 try:
                     for it in works:
-                        it.result(3600 if IS_LONG else 60)
+                        done.update(it.result(7200 if IS_LONG else 60))
                 finally:
                     ended.set()
                 watcher.result(60)
@@ -98,12 +108,18 @@ class Threads(ClusterCase):
             closed = cluster.close()
             total = (epoch + 1) * callers * updates
             self.assertEqual(closed.numbers(), (epoch * callers * updates, total, total))
-            for site, record in closed.records().items():
+            for at, (site, record) in enumerate(closed.records().items()):
                 self.assertEqual(cluster.read(Session(), site, "n"), (total, total))
-                series[site].append(record)
+                if folder:
+                    (Path(folder) / f"{epoch}_{at}.csv").write_bytes(record)
+                else:
+                    series[site].append(record)
             following = closed.successor()
-        for records in series.values():
-            self.audited(*records)
+        if IS_LONG:
+            print(f"{total} updates,", ", ".join(f"{number} {what}" for what, number in done.items()))
+        if not folder:
+            for records in series.values():
+                self.audited(*records)
 
     def test_who_waits_is_woken_at_once(self):
         with self.forced() as cluster:
@@ -513,7 +529,7 @@ if __name__ == "__main__":
     else:
         print("not tried: the audit of the records by a program, since none was given")
     signal.signal(signal.SIGINT, signal.default_int_handler)
-    faulthandler.dump_traceback_later(7200 if IS_LONG else 600, exit=True)
+    faulthandler.dump_traceback_later(14_400 if IS_LONG else 600, exit=True)
     result = unittest.main(exit=False).result
     for why in sorted({why for _, why in result.skipped}):
         print(f"not tried: {why}")

@@ -12,7 +12,6 @@ import (
 	"sync"
 	"sync/atomic"
 	"testing"
-	"time"
 )
 
 var (
@@ -48,8 +47,18 @@ type epoch struct {
 	over    atomic.Bool
 	changes []added // by their numbers
 	samples [readerCount][]sample
+	*counts
+}
 
-	waited, unmet, behind, queries, imported, relimits atomic.Int64
+// counts are what the goroutines of all epochs did.
+type counts struct {
+	waited, unmet, reads, compared, behind, queries, imported, relimits atomic.Int64
+}
+
+func (c *counts) String() string {
+	return fmt.Sprintf("%d settled later, %d with conditions not met, %d limits changed, %d reads, %d of them compared with the log, %d behind, "+
+		"%d queries, %d over", c.waited.Load(), c.unmet.Load(), c.relimits.Load(), c.reads.Load(), c.compared.Load(), c.behind.Load(),
+		c.queries.Load(), c.imported.Load())
 }
 
 type caller struct {
@@ -97,6 +106,7 @@ func (e *epoch) call(it *caller) {
 			e.must(err == nil && out.Applied >= number && out.Value == it.own && it.session.Seen == out.Applied, "%v, %v", out, err)
 			values, applied, err := e.cluster.ReadManyWhenLevel(always, &it.session, Site(it.me), it.me, shared, shared+1)
 			e.must(err == nil && applied >= out.Applied && values[0] == it.own, "%v, %v", values, err)
+			e.reads.Add(2)
 		}
 	}
 }
@@ -105,6 +115,7 @@ func (e *epoch) call(it *caller) {
 func (e *epoch) read(me int) {
 	chance, session, last := rand.New(rand.NewSource(int64(me))), Session{}, [2]int64{}
 	for !e.over.Load() {
+		runtime.Gosched() // or who is woken waits for the end of its slice
 		at, object, seen := Site(me), Object(chance.Intn(objectCount)), session.Seen
 		if chance.Intn(8) == 0 {
 			at = Site(chance.Intn(siteCount))
@@ -117,6 +128,7 @@ func (e *epoch) read(me int) {
 			continue
 		}
 		e.must(err == nil && out.Applied >= seen && session.Seen == out.Applied, "%v, %v", out, err)
+		e.reads.Add(1)
 		if object >= shared {
 			e.must(out.Value >= last[object-shared], "%v after %d", out, last[object-shared])
 			last[object-shared] = out.Value
@@ -193,7 +205,7 @@ func (e *epoch) count() {
 }
 
 // compare compares what was read with what the updates add up to.
-func (e *epoch) compare(length uint64) (samples int) {
+func (e *epoch) compare(length uint64) {
 	after := make([][objectCount]int64, length+1)
 	for number := uint64(first + 1); number <= length; number++ {
 		after[number] = after[number-1]
@@ -205,7 +217,7 @@ func (e *epoch) compare(length uint64) (samples int) {
 		for _, it := range e.samples[reader] {
 			e.must(it.seen.Applied >= first && it.seen.Applied <= length && it.seen.Value == after[it.seen.Applied][it.object], "%v", it)
 		}
-		samples += len(e.samples[reader])
+		e.compared.Add(int64(len(e.samples[reader])))
 	}
 	for at := Site(0); at < siteCount; at++ {
 		for object := Object(0); object < objectCount; object++ {
@@ -213,7 +225,6 @@ func (e *epoch) compare(length uint64) (samples int) {
 			e.must(err == nil && out == Seen{after[length][object], length}, "%v, %v", out, err)
 		}
 	}
-	return samples
 }
 
 // all runs functions, each in a goroutine of its own.
@@ -245,12 +256,12 @@ func TestGoroutinesShareAClusterAndItsSuccessors(t *testing.T) {
 	cluster := opened(t, setup)
 	changes := make([]added, first+*epochs*callerCount**sets+1)
 	var callers [callerCount]*caller
+	var counts counts
 	for me := range callers {
 		callers[me] = &caller{me: Object(me), chance: rand.New(rand.NewSource(int64(88 + me)))}
 	}
 	for at := 0; at < *epochs && !t.Failed(); at++ {
-		e := &epoch{T: t, cluster: cluster, changes: changes}
-		begun := time.Now()
+		e := &epoch{T: t, cluster: cluster, changes: changes, counts: &counts}
 		calls := all()
 		others := all(e.changeLimits, e.count)
 		for me := 0; me < readerCount; me++ {
@@ -265,7 +276,6 @@ func TestGoroutinesShareAClusterAndItsSuccessors(t *testing.T) {
 		}
 		calls.Wait()
 		isGiven(t, nil, nil, cluster.Finish(always))
-		took := time.Since(begun)
 		e.over.Store(true)
 		others.Wait()
 		closed, err := cluster.Close()
@@ -275,7 +285,7 @@ func TestGoroutinesShareAClusterAndItsSuccessors(t *testing.T) {
 		length := uint64(first + (at+1)*callerCount**sets)
 		numbers := cluster.Numbers()
 		e.must(numbers.Length == length && numbers.Acknowledged == length, "%v", numbers)
-		samples := e.compare(length)
+		e.compare(length)
 		for at := range [siteCount]int{} {
 			rows, err := closed.Record(Site(at))
 			isGiven(t, nil, nil, err)
@@ -290,9 +300,7 @@ func TestGoroutinesShareAClusterAndItsSuccessors(t *testing.T) {
 		}
 		closed.Release()
 		cluster = next
-		t.Logf("%d updates in %v, %d settled later, %d unmet, %d limits changed, %d reads compared, %d behind, %d queries, %d over",
-			callerCount**sets, took.Round(time.Millisecond), e.waited.Load(), e.unmet.Load(), e.relimits.Load(), samples, e.behind.Load(),
-			e.queries.Load(), e.imported.Load())
+		t.Logf("%d updates, %v", length-first, &counts)
 	}
 	_, err := cluster.Close()
 	isGiven(t, nil, nil, err)

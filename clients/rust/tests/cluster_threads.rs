@@ -1,18 +1,34 @@
 //! Many threads at one cluster: what each reads is what it was promised, over some epochs, and the records are right.
 //!
-//! ORDUP_UPDATES is how many updates each caller makes in an epoch. ORDUP_PROGRAM is `ordup`, which then audits the records too.
+//! ORDUP_UPDATES is how many updates each caller makes in an epoch, and ORDUP_EPOCHS how many of these there are. ORDUP_PROGRAM is `ordup`,
+//! which then audits the records too. The folder ORDUP_RECORDS, if it is named, gets them: `EPOCH_SITE.csv`.
 
-use ordup::cluster::{Builder, Cluster, Error, ObjectId, Refusal, Scope, Session, SiteId, FOREVER};
+use ordup::cluster::{Builder, Change, Cluster, Condition, Error, ObjectId, Refusal, Scope, Session, SiteId, FOREVER};
 use ordup::{check, check_series, SeriesVerdict, Verdict};
-use std::env;
 use std::io::Write;
+use std::path::Path;
 use std::process::{Command, Stdio};
 use std::sync::atomic::{AtomicBool, AtomicU64, Ordering};
-use std::thread;
 use std::time::Duration;
+use std::{env, fs, thread};
 
 const CALLERS: usize = 4;
-const EPOCHS: usize = 3;
+
+/// What all threads did.
+#[derive(Default)]
+struct Counts {
+    later: AtomicU64,
+    unmet: AtomicU64,
+    reads: AtomicU64,
+    behind: AtomicU64,
+    queries: AtomicU64,
+    over: AtomicU64,
+    limits: AtomicU64,
+}
+
+fn count(which: &AtomicU64, more: usize) {
+    which.fetch_add(more as u64, Ordering::Relaxed);
+}
 
 /// Each update adds 1 to its caller's own object and to `total`, which so is the number of the last update before it. Some take 1 of the
 /// stock, if there is any.
@@ -22,11 +38,16 @@ struct Plan {
     stock: ObjectId,
     sites: Vec<SiteId>,
     updates: u64,
+    counts: Counts,
+}
+
+fn variable(name: &str, otherwise: u64) -> u64 {
+    env::var(name).map_or(otherwise, |text| text.parse().unwrap())
 }
 
 impl Plan {
     fn open() -> (Plan, Cluster) {
-        let updates = env::var("ORDUP_UPDATES").map_or(500, |text| text.parse().unwrap());
+        let updates = variable("ORDUP_UPDATES", 500);
         let mut builder = Builder::new().unwrap();
         let own: Vec<_> = (0..CALLERS).map(|me| builder.object(&format!("own{me}"), 0).unwrap()).collect();
         let (total, stock) = (builder.object("total", 0).unwrap(), builder.object("stock", updates as i64).unwrap());
@@ -37,40 +58,56 @@ impl Plan {
         builder.limit(sites[2], Scope::Object(total), 5).unwrap();
         builder.limit(sites[3], Scope::Group(group), 50).unwrap();
         let cluster = builder.open().unwrap();
-        (Plan { own, total, stock, sites, updates }, cluster)
+        (Plan { own, total, stock, sites, updates, counts: Counts::default() }, cluster)
+    }
+
+    /// Proposes an update, and settles it where that did not wait. It answers whether the conditions were met.
+    fn propose(&self, cluster: &Cluster, session: &mut Session, changes: &[Change], conditions: &[Condition], timeout: Duration) -> bool {
+        let before = session.seen;
+        match cluster.propose_if(session, changes, conditions, timeout) {
+            Ok(number) => assert_eq!(session.seen, number),
+            Err(Error::NotYet { number }) => {
+                assert_eq!(timeout, Duration::ZERO);
+                assert!(session.seen < number);
+                cluster.settle(session, number, FOREVER).unwrap();
+                assert_eq!(session.seen, number);
+                count(&self.counts.later, 1);
+            }
+            Err(Error::Unmet { index: 0 }) => {
+                assert_eq!((conditions.len(), session.seen), (1, before));
+                count(&self.counts.unmet, 1);
+                return false;
+            }
+            Err(why) => panic!("{why}"),
+        }
+        true
     }
 
     /// A caller: it sees what it did, at each site. It answers how many sales it made.
     fn call(&self, cluster: &Cluster, me: usize, session: &mut Session, done: &mut i64) -> u64 {
         let mut sales = 0;
         for update in 0..self.updates {
-            let (own, is_sale) = (self.own[me], update % 2 == 0);
+            let own = self.own[me];
             let changes = [own.add(1), self.total.add(1), self.stock.add(-1)];
-            let (changes, conditions) = if is_sale { (&changes[..], vec![self.stock.at_least(0)]) } else { (&changes[..2], vec![]) };
             let timeout = if update % 8 == 3 { Duration::ZERO } else { FOREVER };
-            match cluster.propose_if(session, changes, &conditions, timeout) {
-                Ok(number) => assert_eq!(session.seen, number),
-                Err(Error::NotYet { number }) => {
-                    assert_eq!(timeout, Duration::ZERO);
-                    assert!(session.seen < number);
-                    cluster.settle(session, number, FOREVER).unwrap();
-                    assert_eq!(session.seen, number);
-                }
-                Err(Error::Unmet { index: 0 }) => {
-                    assert!(is_sale);
-                    continue;
-                }
-                Err(why) => panic!("{why}"),
-            }
+            let is_sale = update % 2 == 0 && self.propose(cluster, session, &changes, &[self.stock.at_least(0)], timeout);
+            assert!(is_sale || self.propose(cluster, session, &changes[..2], &[], timeout));
             sales += u64::from(is_sale);
             *done += 1;
             let (site, before) = (self.sites[(update as usize + me) % self.sites.len()], session.seen);
             match cluster.read(session, site, own) {
-                Ok(seen) => assert_eq!((seen.value, seen.applied >= before), (*done, true)),
-                Err(Error::Behind { applied }) => assert!(applied < before),
+                Ok(seen) => {
+                    assert_eq!((seen.value, seen.applied >= before), (*done, true));
+                    count(&self.counts.reads, 1);
+                }
+                Err(Error::Behind { applied }) => {
+                    assert!(applied < before);
+                    count(&self.counts.behind, 1);
+                }
                 Err(why) => panic!("{why}"),
             }
             assert_eq!(cluster.read_when_level(session, site, own, FOREVER).unwrap().value, *done);
+            count(&self.counts.reads, 1);
         }
         sales
     }
@@ -85,6 +122,7 @@ impl Plan {
         assert_eq!(snapshot.values[0], snapshot.applied as i64);
         assert_eq!(snapshot.values[2..].iter().sum::<i64>(), snapshot.values[0]);
         assert!(snapshot.values[1] >= 0 && snapshot.applied >= seen.applied);
+        count(&self.counts.reads, 2);
         for lag in cluster.lags(site).unwrap() {
             assert!(lag.lag <= lag.limit, "{lag:?}");
         }
@@ -97,6 +135,8 @@ impl Plan {
         let mut query = cluster.query(site, 30).unwrap();
         let reads: Vec<_> = (0..3).map(|_| query.read(self.total)).take_while(|read| *read != over_import()).map(Result::unwrap).collect();
         let ended = query.end().unwrap();
+        count(&self.counts.queries, 1);
+        count(&self.counts.over, usize::from(reads.len() < 3));
         for read in &reads {
             assert!(read.value.abs_diff(ended.place as i64) <= read.import && read.total <= 30 && read.place == ended.place);
         }
@@ -106,9 +146,20 @@ impl Plan {
 
     fn relimit(&self, cluster: &Cluster, amount: u64) {
         match cluster.relimit(self.sites[3], Scope::All, amount) {
-            Ok(place) => assert!(place > cluster.numbers().before),
-            Err(why) => assert!(matches!(why, Error::Refused(Refusal::HeadPending | Refusal::LagOver)), "{why}"),
+            Ok(place) => {
+                assert!(place > cluster.numbers().before);
+                count(&self.counts.limits, 1);
+            }
+            Err(why) => assert!(matches!(why, Error::Refused(Refusal::HeadPending | Refusal::LagOver | Refusal::TooMany)), "{why}"),
         }
+    }
+
+    fn tell(&self, updates: i64, sales: u64) {
+        let Counts { later, unmet, reads, behind, queries, over, limits } = &self.counts;
+        println!(
+            "{updates} updates, {later:?} settled later, {sales} with conditions met, {unmet:?} not met, {limits:?} limits changed, \
+             {reads:?} reads, {behind:?} behind, {queries:?} queries, {over:?} over"
+        );
     }
 
     /// All threads of an epoch. It answers how many sales were made.
@@ -159,22 +210,31 @@ fn audited(words: &[&str], record: &str) {
 fn four_callers_at_four_sites_over_some_epochs() {
     let (plan, mut cluster) = Plan::open();
     let (mut sessions, mut done, mut sales) = (vec![Session::default(); CALLERS], vec![0; CALLERS], 0);
-    let mut series = vec![String::new(); plan.sites.len()];
-    for _ in 0..EPOCHS {
+    let (mut series, folder) = (vec![String::new(); plan.sites.len()], env::var_os("ORDUP_RECORDS"));
+    for epoch in 0..variable("ORDUP_EPOCHS", 3) {
         sales += plan.epoch(&cluster, &mut sessions, &mut done);
         cluster.finish(FOREVER).unwrap();
         let mut closed = cluster.close().unwrap();
-        for (site, series) in plan.sites.iter().zip(&mut series) {
+        for (at, (site, series)) in plan.sites.iter().zip(&mut series).enumerate() {
             let left = closed.read_many(&mut Session::default(), *site, &[plan.total, plan.stock]).unwrap().values;
             assert_eq!(left, [done.iter().sum(), plan.updates as i64 - sales as i64]);
             let (record, rounds) = (closed.record(*site).unwrap(), closed.site_numbers(*site).unwrap().rounds);
             assert_eq!(check(record.as_bytes()), Ok(Verdict::Yes { rounds }));
-            audited(&["check"], &record);
-            series.push_str(&record);
+            match &folder {
+                Some(folder) => fs::write(Path::new(folder).join(format!("{epoch}_{at}.csv")), record).unwrap(),
+                None => {
+                    audited(&["check"], &record);
+                    series.push_str(&record);
+                }
+            }
         }
         cluster = closed.successor().unwrap();
     }
     assert_eq!(sales, plan.updates, "each bag of the stock is sold once");
+    plan.tell(done.iter().sum(), sales);
+    if folder.is_some() {
+        return; // whoever has the records audits them
+    }
     for series in series {
         assert!(matches!(check_series(series.as_bytes()), Ok(SeriesVerdict::Yes { .. })));
         audited(&["check", "--series"], &series);

@@ -116,7 +116,7 @@ func (a *Archiver) Pass(ctx context.Context) (waits bool, err error) {
 func (a *Archiver) passOne(ctx context.Context, from, end int64) (before int64, removed bool, err error) {
 	archives, err := a.Engine.Archives(ctx)
 	if err != nil {
-		return 0, false, err
+		return 0, false, fmt.Errorf("read which hosts have archives: %w", err)
 	}
 	epoch, own, err := a.own(ctx, archives, from, end)
 	if err != nil {
@@ -151,14 +151,15 @@ func (a *Archiver) own(ctx context.Context, archives map[int64]map[string]engine
 		}
 	}
 	epoch, own, err := a.write(ctx, from, end)
-	if err == nil {
-		err = a.Engine.PutArchive(ctx, epoch, a.Host, own)
+	if err != nil {
+		return epoch, own, err
 	}
-	if err == nil {
-		a.looks(own)
-		a.Log.Info("archived", "epoch", epoch, "entries", own.Before-own.From, "digest", own.Digest[:16])
+	if err := a.Engine.PutArchive(ctx, epoch, a.Host, own); err != nil {
+		return epoch, own, fmt.Errorf("say that the archive is here: %w", err)
 	}
-	return epoch, own, err
+	a.looks(own)
+	a.Log.Info("archived", "epoch", epoch, "entries", own.Before-own.From, "digest", own.Digest[:16])
+	return epoch, own, nil
 }
 
 func (a *Archiver) looks(own engine.Archive) {
@@ -172,7 +173,7 @@ func (a *Archiver) looks(own engine.Archive) {
 func (a *Archiver) remove(ctx context.Context, epoch int64, own engine.Archive) (bool, error) {
 	archives, err := a.Engine.Archives(ctx)
 	if err != nil {
-		return false, err
+		return false, fmt.Errorf("read which hosts have archives: %w", err)
 	}
 	hosts := []string{}
 	for host, archive := range archives[epoch] {
@@ -190,7 +191,10 @@ func (a *Archiver) remove(ctx context.Context, epoch int64, own engine.Archive) 
 	if removed {
 		a.Log.Info("removed", "epoch", epoch, "hosts", len(hosts))
 	}
-	return removed, err
+	if err != nil {
+		return removed, fmt.Errorf("take the entries away: %w", err)
+	}
+	return removed, nil
 }
 
 // write writes the archive of the epoch that begins with an entry, whole or not at all.
@@ -241,7 +245,7 @@ func (a *Archiver) copy(ctx context.Context, to io.Writer, from, end int64) (epo
 	for isSame := true; isSame && next < end; {
 		raws, _, revision, err = a.Engine.Entries(ctx, next, revision)
 		if err != nil {
-			return 0, own, err
+			return 0, own, fmt.Errorf("read from the entry %d on: %w", next, err)
 		}
 		if len(raws) == 0 {
 			return 0, own, &engine.MissingError{Number: next}

@@ -210,7 +210,9 @@ func Read(from io.Reader, to any) error {
 func Write(to http.ResponseWriter, status int, value any) {
 	text, err := json.Marshal(value)
 	if err != nil {
-		status, text = http.StatusInternalServerError, []byte(`{"error":"NoJSON"}`)
+		failed := NewError(Failed, "an answer is not written as JSON")
+		status = failed.Status
+		text, _ = json.Marshal(failed)
 	}
 	to.Header().Set("Content-Type", "application/json")
 	to.Header().Set("Cache-Control", "no-store")

@@ -17,8 +17,8 @@ var (
 // BadLine is a text that is no command, or no name. The store was not asked.
 type BadLine struct{ Text string }
 
-func (bl *BadLine) Error() string {
-	return fmt.Sprintf("ordup: %q is no command, or no name", bl.Text)
+func (b *BadLine) Error() string {
+	return fmt.Sprintf("ordup: %q is no command, or no name", b.Text)
 }
 
 // NoMemory says that memory was refused. Nothing is lost: the lines in the first Taken bytes of the text were taken, and the rest of

@@ -40,7 +40,7 @@ func opened(t *testing.T, setup Setup) *Cluster {
 }
 
 // isGiven fails the test where a call gave something else, or an error.
-func isGiven(t *testing.T, wanted, given interface{}, err error) {
+func isGiven(t *testing.T, wanted, given any, err error) {
 	t.Helper()
 	if err != nil || !reflect.DeepEqual(given, wanted) {
 		t.Errorf("%#v, %v instead of %#v", given, err, wanted)

@@ -44,7 +44,7 @@ var (
 	ErrMixed error = Refused{27, "Mixed"}
 )
 
-// ErrClosed: the query has ended, or the memory of the cluster was given back.
+// ErrClosed says that the query has ended, or the memory of the cluster was given back.
 var ErrClosed = errors.New("ordup: closed")
 
 // ErrNotYet says that an update is numbered and not acknowledged. It stands: it is not to be proposed again, and Settle waits for it. Cause

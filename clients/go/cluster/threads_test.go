@@ -68,7 +68,7 @@ type caller struct {
 	own     int64
 }
 
-func (e *epoch) must(is bool, format string, words ...interface{}) {
+func (e *epoch) must(is bool, format string, words ...any) {
 	if !is {
 		e.Helper()
 		e.Errorf(format, words...)

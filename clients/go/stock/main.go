@@ -91,11 +91,11 @@ func (s *service) stock(w http.ResponseWriter, r *http.Request) {
 	if acknowledged := s.store.Numbers().Acknowledged; acknowledged > seen.Applied {
 		stale = acknowledged - seen.Applied
 	}
-	answer(w, session, map[string]interface{}{"left": seen.Value, "applied": seen.Applied, "stale": stale}, err)
+	answer(w, session, map[string]any{"left": seen.Value, "applied": seen.Applied, "stale": stale}, err)
 }
 
 // answer writes what came of a call.
-func answer(w http.ResponseWriter, session *cluster.Session, found interface{}, err error) {
+func answer(w http.ResponseWriter, session *cluster.Session, found any, err error) {
 	var unmet cluster.ErrUnmet
 	switch {
 	case err == nil:

@@ -16,10 +16,10 @@ import (
 )
 
 // A server answers each request by the next of some functions, and by the last one from then on.
-func server(t *testing.T, count *int64, answers ...func(http.ResponseWriter)) string {
+func server(t *testing.T, count *atomic.Int64, answers ...func(http.ResponseWriter)) string {
 	t.Helper()
 	server := httptest.NewServer(http.HandlerFunc(func(to http.ResponseWriter, _ *http.Request) {
-		at := int(atomic.AddInt64(count, 1)) - 1
+		at := int(count.Add(1)) - 1
 		if at >= len(answers) {
 			at = len(answers) - 1
 		}
@@ -33,8 +33,11 @@ func acked(to http.ResponseWriter) {
 	wire.Write(to, 200, wire.Acked{Client: "ann", Number: 1, Epoch: 1, Place: 3, Seen: "1.3"})
 }
 
-func failing(status int, name wire.Name) func(http.ResponseWriter) {
-	return func(to http.ResponseWriter) { wire.Write(to, status, wire.Error{Name: name, Message: string(name)}) }
+func failing(name wire.Name) func(http.ResponseWriter) {
+	return func(to http.ResponseWriter) {
+		told := wire.NewError(name, string(name))
+		wire.Write(to, told.Status, told)
+	}
 }
 
 // naming says that another primary writes.
@@ -65,18 +68,18 @@ func update(t *testing.T, most time.Duration, addresses ...string) (wire.Acked, 
 
 func TestItAsksAgainElsewhere(t *testing.T) {
 	t.Parallel()
-	var one, other int64
+	var one, other atomic.Int64
 	nobody := "http://127.0.0.1:1"
-	right := server(t, &other, failing(503, "Busy"), failing(507, "Full"), failing(504, "NoAnswer"), acked)
+	right := server(t, &other, failing(wire.Busy), failing(wire.Full), failing(wire.NoAnswer), acked)
 	own := ""
 	itself := server(t, &one, func(to http.ResponseWriter) { naming(own)(to) })
 	own = itself
 	for _, addresses := range [][]string{{nobody, right}, {right}, {server(t, &one, noNode), right}, {server(t, &one, naming("")), right},
 		{server(t, &one, naming(right))}, {server(t, &one, passed(right))}, {itself, right},
-		{server(t, &one, naming(nobody)), right}, {server(t, &one, failing(503, "NotServing")), right}} {
-		atomic.StoreInt64(&other, 0)
-		if answer, err := update(t, 10*time.Second, addresses...); err != nil || answer.Seen != "1.3" || atomic.LoadInt64(&other) != 4 {
-			t.Errorf("%v: %v, %v, %d", addresses, answer, err, other)
+		{server(t, &one, naming(nobody)), right}, {server(t, &one, failing(wire.NotServing)), right}} {
+		other.Store(0)
+		if answer, err := update(t, 10*time.Second, addresses...); err != nil || answer.Seen != "1.3" || other.Load() != 4 {
+			t.Errorf("%v: %v, %v, %d", addresses, answer, err, other.Load())
 		}
 	}
 }
@@ -84,21 +87,21 @@ func TestItAsksAgainElsewhere(t *testing.T) {
 // Where only the header names the primary that writes, that one is asked next, and not the one that passed the request on.
 func TestTheHeaderNamesWhoIsAskedNext(t *testing.T) {
 	t.Parallel()
-	var one, other int64
+	var one, other atomic.Int64
 	first := server(t, &one, passed(server(t, &other, acked)))
-	if answer, err := update(t, 5*time.Second, first); err != nil || answer.Seen != "1.3" || one != 1 || other != 1 {
-		t.Error(answer, err, one, other)
+	if answer, err := update(t, 5*time.Second, first); err != nil || answer.Seen != "1.3" || one.Load() != 1 || other.Load() != 1 {
+		t.Error(answer, err, one.Load(), other.Load())
 	}
 }
 
 // A token that came by TLS goes to no address without it, whoever names that.
 func TestAnAddressOfAnotherSchemeIsNotAsked(t *testing.T) {
 	t.Parallel()
-	var plain, next int64
+	var plain, next atomic.Int64
 	named := server(t, &plain, acked)
 	for _, names := range []func(http.ResponseWriter){naming(named), passed(named)} {
 		secure := httptest.NewTLSServer(http.HandlerFunc(func(to http.ResponseWriter, _ *http.Request) {
-			atomic.AddInt64(&next, 1)
+			next.Add(1)
 			names(to)
 		}))
 		defer secure.Close()
@@ -110,8 +113,8 @@ func TestAnAddressOfAnotherSchemeIsNotAsked(t *testing.T) {
 		ctx, cancel := context.WithTimeout(context.Background(), time.Second)
 		defer cancel()
 		_, err = asker.Update(ctx, wire.Update{Client: "ann", Number: 1})
-		if err == nil || plain != 0 || atomic.SwapInt64(&next, 0) == 0 {
-			t.Error(err, plain)
+		if err == nil || plain.Load() != 0 || next.Swap(0) == 0 {
+			t.Error(err, plain.Load())
 		}
 	}
 }
@@ -147,24 +150,24 @@ func TestABodySaysThatItIsJSON(t *testing.T) {
 // A server that is there and has no answer may be cut off from the engine. Another one is not.
 func TestItDoesNotStayWhereThereIsNoAnswer(t *testing.T) {
 	t.Parallel()
-	for _, answer := range []func(http.ResponseWriter){failing(504, "NoAnswer"), failing(500, "Failed"), failing(408, "TooSlow")} {
-		var one, other int64
+	for _, answer := range []func(http.ResponseWriter){failing(wire.NoAnswer), failing(wire.Failed), failing(wire.TooSlow)} {
+		var one, other atomic.Int64
 		addresses := []string{server(t, &one, answer), server(t, &other, acked)}
-		if told, err := update(t, 2*time.Second, addresses...); err != nil || told.Seen != "1.3" || atomic.LoadInt64(&one) != 1 {
-			t.Error(told, err, atomic.LoadInt64(&one))
+		if told, err := update(t, 2*time.Second, addresses...); err != nil || told.Seen != "1.3" || one.Load() != 1 {
+			t.Error(told, err, one.Load())
 		}
 	}
 }
 
 func TestWhatIsForGoodIsNotAskedAgain(t *testing.T) {
 	t.Parallel()
-	for name, status := range map[wire.Name]int{"Refused": 422, "Passed": 409, "Differs": 409, "Malformed": 400, "NoToken": 401, "Closed": 403} {
+	for _, name := range []wire.Name{wire.Refused, wire.Passed, wire.Differs, wire.Malformed, wire.NoToken, wire.Closed} {
 		t.Run(string(name), func(t *testing.T) {
-			var count int64
-			_, err := update(t, 10*time.Second, server(t, &count, failing(status, name)))
+			var count atomic.Int64
+			_, err := update(t, 10*time.Second, server(t, &count, failing(name)))
 			var told *wire.Error
-			if !errors.As(err, &told) || told.Name != name || told.Status != status || count != 1 {
-				t.Error(name, err, count)
+			if !errors.As(err, &told) || told.Name != name || told.Status != wire.NewError(name, "").Status || count.Load() != 1 {
+				t.Error(name, err, count.Load())
 			}
 		})
 	}
@@ -172,11 +175,11 @@ func TestWhatIsForGoodIsNotAskedAgain(t *testing.T) {
 
 func TestItTellsTheLastReason(t *testing.T) {
 	t.Parallel()
-	var count int64
-	_, err := update(t, time.Second, server(t, &count, failing(503, "Busy")), "http://127.0.0.1:1")
+	var count atomic.Int64
+	_, err := update(t, time.Second, server(t, &count, failing(wire.Busy)), "http://127.0.0.1:1")
 	var none *client.NoAnswerError
-	if !errors.As(err, &none) || none.Last == nil || count < 2 || count > 20 {
-		t.Error(err, count)
+	if !errors.As(err, &none) || none.Last == nil || count.Load() < 2 || count.Load() > 20 {
+		t.Error(err, count.Load())
 	}
 	hangs := server(t, &count, func(http.ResponseWriter) { time.Sleep(300 * time.Millisecond) })
 	_, err = update(t, 100*time.Millisecond, hangs)

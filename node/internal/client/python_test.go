@@ -6,7 +6,10 @@ import (
 	"net/http/httptest"
 	"os/exec"
 	"strings"
+	"sync/atomic"
 	"testing"
+
+	"ordup.dev/node/internal/wire"
 )
 
 // The client in Python asks as this one does, and ends with its statuses, but where the store refuses an update.
@@ -23,14 +26,14 @@ func TestTheClientInPython(t *testing.T) {
 		status  int
 		says    string
 	}{
-		{"at last", []func(http.ResponseWriter){failing(503, "Busy"), failing(507, "Full"), noNode, page, list, acked}, 0, `"seen": "1.3"`},
-		{"refused", []func(http.ResponseWriter){failing(422, "Refused")}, 2, `"error": "Refused"`},
-		{"passed", []func(http.ResponseWriter){failing(409, "Passed")}, 2, `"error": "Passed"`},
+		{"at last", []func(http.ResponseWriter){failing(wire.Busy), failing(wire.Full), noNode, page, list, acked}, 0, `"seen": "1.3"`},
+		{"refused", []func(http.ResponseWriter){failing(wire.Refused)}, 2, `"error": "Refused"`},
+		{"passed", []func(http.ResponseWriter){failing(wire.Passed)}, 2, `"error": "Passed"`},
 		{"no node", []func(http.ResponseWriter){page}, 1, "there is no answer yet"},
-		{"full", []func(http.ResponseWriter){failing(507, "Full")}, 1, `"error": "Full"`},
+		{"full", []func(http.ResponseWriter){failing(wire.Full)}, 1, `"error": "Full"`},
 	} {
 		t.Run(row.what, func(t *testing.T) {
-			var count int64
+			var count atomic.Int64
 			asked := exec.Command("python3", "../../../examples/machines/update.py", "--patience", "1.5", server(t, &count, row.answers...), "ann", "1", "add:tea:-5")
 			said, _ := asked.CombinedOutput()
 			if status := asked.ProcessState.ExitCode(); status != row.status || !strings.Contains(string(said), row.says) || bytes.Contains(said, []byte("Traceback")) {

@@ -18,14 +18,15 @@ func silence(t *testing.T, began bool) {
 	writer, calls := members.Engine(), members.Calls()
 	own := calls.Engine(t)
 	is(t, nil, writer.Write(ctx, &engine.Write{Number: 1, Text: []byte("1"), Epoch: 1, First: 1}))
-	last, told, isSilent := int64(0), int64(0), int64(0)
+	var last, told atomic.Int64
+	var isSilent atomic.Bool
 	calls.Judge(func(call etcdtest.Call) etcdtest.Fate {
 		isAnswer := strings.HasSuffix(call.Method, "/Watch") && call.Asked == nil
-		if isAnswer && (!began || atomic.LoadInt64(&isSilent) > 0) {
+		if isAnswer && (!began || isSilent.Load()) {
 			return etcdtest.Silent
 		}
 		if isAnswer {
-			atomic.AddInt64(&told, 1)
+			told.Add(1)
 		}
 		return etcdtest.Passes
 	})
@@ -33,18 +34,18 @@ func silence(t *testing.T, began bool) {
 	done := make(chan error, 1)
 	go func() {
 		done <- own.Follow(following, 1, func(entries []engine.Raw) error {
-			atomic.StoreInt64(&last, entries[len(entries)-1].Number)
+			last.Store(entries[len(entries)-1].Number)
 			return nil
 		})
 	}()
-	until(t, "the first entry does not come", func() bool { return atomic.LoadInt64(&last) == 1 })
+	until(t, "the first entry does not come", func() bool { return last.Load() == 1 })
 	if began {
-		until(t, "there is no watch", func() bool { return atomic.LoadInt64(&told) > 0 })
+		until(t, "there is no watch", func() bool { return told.Load() > 0 })
 	}
-	atomic.StoreInt64(&isSilent, 1)
+	isSilent.Store(true)
 	time.Sleep(200 * time.Millisecond)
 	is(t, nil, write(t, writer, 2, "x"))
-	until(t, "an entry does not come", func() bool { return atomic.LoadInt64(&last) == 2 })
+	until(t, "an entry does not come", func() bool { return last.Load() == 2 })
 	is(t, int64(0), own.Failures())
 	stop()
 	is(t, context.Canceled, <-done)

@@ -27,9 +27,9 @@ func TestALeaseThatIsGivenBackLate(t *testing.T) {
 		}
 		return etcdtest.Passes
 	})
-	terms := int64(0)
+	var terms atomic.Int64
 	one := slow.NewLease(engine.SiteKey("north", "north"), "one", nil, func(context.Context, engine.Term) error {
-		if atomic.AddInt64(&terms, 1) == 1 {
+		if terms.Add(1) == 1 {
 			return errors.New("the work of the first term fails")
 		}
 		return nil

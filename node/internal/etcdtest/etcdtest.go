@@ -1,4 +1,6 @@
 // Package etcdtest starts etcd for a test: members of their own, in a temporary folder, at free ports of this computer.
+//
+// Tests whose leases and calls run out by the clock do not run beside others (t.Parallel).
 package etcdtest
 
 import (
@@ -70,7 +72,7 @@ func StartSecure(t *testing.T, count int, config engine.Config, options ...strin
 func FreePort(t *testing.T) string {
 	t.Helper()
 	for tries := 0; tries < 100; tries++ {
-		address := fmt.Sprintf("127.0.0.1:%d", firstPort+atomic.AddInt64(&ports, 1)%mostPorts)
+		address := fmt.Sprintf("127.0.0.1:%d", firstPort+ports.Add(1)%mostPorts)
 		if listener, err := net.Listen("tcp", address); err == nil {
 			listener.Close()
 			return address
@@ -93,11 +95,11 @@ func Until(t *testing.T, what string, isSo func() bool) {
 // Ports are given one after another, from one by chance on. So none is given twice, also before whoever got it listens there.
 const firstPort, mostPorts = 10_000, 20_000
 
-var ports int64
+var ports atomic.Int64
 
 func init() {
 	rand.Seed(time.Now().UnixNano())
-	ports = rand.Int63n(mostPorts)
+	ports.Store(rand.Int63n(mostPorts))
 }
 
 // Begin starts a member, with what it has on its disk.

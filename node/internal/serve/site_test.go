@@ -87,10 +87,10 @@ func TestAThousandReadersKeepTheirConnections(t *testing.T) {
 	config.Requests = 2000
 	address := listenAt(t, func(string) http.Handler { return serve.NewSite(config, "north", readers) })
 	asker := &http.Client{Transport: &http.Transport{MaxIdleConnsPerHost: 1000}}
-	var kept int64
+	var kept atomic.Int64
 	trace := &httptrace.ClientTrace{GotConn: func(info httptrace.GotConnInfo) {
 		if info.Reused {
-			atomic.AddInt64(&kept, 1)
+			kept.Add(1)
 		}
 	}}
 	for round := int64(0); round < 3; round++ {
@@ -111,7 +111,7 @@ func TestAThousandReadersKeepTheirConnections(t *testing.T) {
 			}()
 		}
 		readers.Wait()
-		if was := atomic.LoadInt64(&kept); was != 1000*round {
+		if was := kept.Load(); was != 1000*round {
 			t.Errorf("%d connections were kept, after round %d", was, round)
 		}
 	}

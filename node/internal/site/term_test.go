@@ -103,11 +103,11 @@ func TestOneProcessServesThoughALeaseIsGivenBackLate(t *testing.T) {
 // A gate takes places while it is open.
 type gate struct {
 	listener
-	isShut int64
+	isShut atomic.Bool
 }
 
 func (g *gate) Tell(ctx context.Context, place epoch.Place) error {
-	if atomic.LoadInt64(&g.isShut) > 0 {
+	if g.isShut.Load() {
 		return errors.New("no primary writes")
 	}
 	return g.listener.Tell(ctx, place)
@@ -115,7 +115,8 @@ func (g *gate) Tell(ctx context.Context, place epoch.Place) error {
 
 // In each term of its lease a process serves readers once somebody has taken a place of it. Within a term it goes on, whoever is down.
 func TestASiteServesOnceAPlaceWasTaken(t *testing.T) {
-	shop, gate := newShop(t), &gate{isShut: 1}
+	shop, gate := newShop(t), &gate{}
+	gate.isShut.Store(true)
 	shop.put()
 	site := shop.north("one", shop.members.Engine(), gate)
 	go site.Run(shop.ctx)
@@ -129,9 +130,9 @@ func TestASiteServesOnceAPlaceWasTaken(t *testing.T) {
 		}
 	}
 	stays(false)
-	atomic.StoreInt64(&gate.isShut, 0)
+	gate.isShut.Store(false)
 	until(t, "it does not serve", func() bool { return site.Status().Serves })
-	atomic.StoreInt64(&gate.isShut, 1)
+	gate.isShut.Store(true)
 	shop.ask("ann", 1, "add:tea:-1")
 	shop.put()
 	until(t, "it does not follow", func() bool { return site.Status().Place == 1 })
@@ -139,7 +140,7 @@ func TestASiteServesOnceAPlaceWasTaken(t *testing.T) {
 	shop.members.Delete("site/north")
 	until(t, "it has no second term", func() bool { return site.lease.Lives(2) })
 	stays(false)
-	atomic.StoreInt64(&gate.isShut, 0)
+	gate.isShut.Store(false)
 	opened := time.Now()
 	until(t, "it does not serve again", func() bool { return site.Status().Serves })
 	if after := time.Since(opened); after > tellStill/2 {

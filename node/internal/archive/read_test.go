@@ -12,6 +12,7 @@ import (
 )
 
 func TestAnArchiveIsReadAsItWasWritten(t *testing.T) {
+	t.Parallel()
 	entries := []*script.Entry{
 		{Epoch: 1, Ordup: "1", Writer: "p1", Steps: []script.Step{
 			{Kind: script.Begin, Settings: &script.Settings{Every: 1, Remembers: 1, Origin: "a", Ordup: "1", Began: script.Began{Every: 1, Remembers: 1, Origin: "a"}}}, {Kind: script.Declare, Words: "start"}}},

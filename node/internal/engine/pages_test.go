@@ -6,6 +6,7 @@ import (
 )
 
 func TestPagesGrowAndShrink(t *testing.T) {
+	t.Parallel()
 	pages := newPages()
 	if count, most := pages.next(); count != 4 || most != CallTime {
 		t.Error(count, most)

@@ -38,6 +38,7 @@ func (w *world) remembers(kind ReplyKind) {
 
 // Epochs that follow one another fast forget nobody, and so does time without epochs.
 func TestAClientIsForgottenOnceItsEpochsAndItsSecondsAreOver(t *testing.T) {
+	t.Parallel()
 	for _, row := range []struct {
 		name   string
 		epochs int
@@ -62,6 +63,7 @@ func TestAClientIsForgottenOnceItsEpochsAndItsSecondsAreOver(t *testing.T) {
 
 // What a client asks counts from when it asked, however long nothing was written before.
 func TestARequestIsNoOlderThanItIs(t *testing.T) {
+	t.Parallel()
 	world := aged(t)
 	world.now += 700 * time.Second
 	is(t, Waits, world.ask("bob", 1, "nonsense").Kind)
@@ -73,6 +75,7 @@ func TestARequestIsNoOlderThanItIs(t *testing.T) {
 
 // The time between two writers counts for nobody, and neither does what another one noted.
 func TestATakeOverForgetsNobody(t *testing.T) {
+	t.Parallel()
 	world := aged(t)
 	for _, writer := range []string{"p2", "p1"} {
 		world.now += time.Hour
@@ -94,6 +97,7 @@ func TestATakeOverForgetsNobody(t *testing.T) {
 
 // A script that began without seconds goes by epochs alone.
 func TestAScriptWithoutSeconds(t *testing.T) {
+	t.Parallel()
 	world := newWorld(t, settings, shop)
 	world.ask("ann", 1, "add:tea:-1")
 	world.write()

@@ -52,6 +52,7 @@ func (w *world) leave(sites ...string) {
 
 // However much comes while one batch is on its way, what is written is read by all.
 func TestNoEntryCountsMoreThanItsReaderTakes(t *testing.T) {
+	t.Parallel()
 	const updates = 520_000 // Of two sites that is more than an entry counts.
 	world := grown(t, updates, "a", "b", "c", "d", "e", "f")
 	for _, row := range []struct {
@@ -100,7 +101,7 @@ func (w *world) workLong() {
 	}
 }
 
-// Wishes that replace one another would be too large for the engine in one entry.
+// Wishes that replace one another would be too large for the engine in one entry. It changes openStore, so no other test runs beside it.
 func TestAWishWaitsForRoom(t *testing.T) {
 	defer func(before store.Open) { openStore = before }(openStore)
 	openStore = modelstore.Open
@@ -127,6 +128,7 @@ func TestAWishWaitsForRoom(t *testing.T) {
 
 // What this program could not read is never given out to be written, and the core is of no more use.
 func TestWhatNobodyReadsIsNotWritten(t *testing.T) {
+	t.Parallel()
 	for name, steps := range map[string][]script.Step{
 		"it counts too much": {{Kind: script.Settle, Count: 1_000_001}},
 		"it is no step":      {{Kind: script.Leave, Site: "North"}},

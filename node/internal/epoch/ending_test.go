@@ -38,6 +38,7 @@ func (w *world) tellAll() {
 }
 
 func TestAnEpochEndsOnceAllSitesAreThere(t *testing.T) {
+	t.Parallel()
 	short := settings
 	short.Every = 2
 	world := newWorld(t, short, shop)
@@ -71,6 +72,7 @@ func TestAnEpochEndsOnceAllSitesAreThere(t *testing.T) {
 }
 
 func TestAnEpochDoesNotEndBeforeASiteThatIsHereHasToldAll(t *testing.T) {
+	t.Parallel()
 	world := newWorld(t, settings, shop)
 	world.ask("ann", 1, "add:tea:-1")
 	world.ask("ann", 2, "add:tea:-1")
@@ -87,6 +89,7 @@ func TestAnEpochDoesNotEndBeforeASiteThatIsHereHasToldAll(t *testing.T) {
 
 // A site is here by what it tells that is new: one that tells the same again holds up no client.
 func TestASiteThatTellsNothingNewIsAway(t *testing.T) {
+	t.Parallel()
 	short := settings
 	short.Every = 2
 	world := newWorld(t, short, shop)
@@ -103,6 +106,7 @@ func TestASiteThatTellsNothingNewIsAway(t *testing.T) {
 }
 
 func TestAClientIsForgottenAtItsAge(t *testing.T) {
+	t.Parallel()
 	world := newWorld(t, settings, shop)
 	world.ask("ann", 1, "add:tea:-1")
 	for _, kind := range []ReplyKind{Answered, Answered, Waits} {
@@ -117,6 +121,7 @@ func TestAClientIsForgottenAtItsAge(t *testing.T) {
 }
 
 func TestOneWishEndsOneEpoch(t *testing.T) {
+	t.Parallel()
 	world := newWorld(t, settings, shop)
 	world.next()
 	world.next()
@@ -143,6 +148,7 @@ func TestOneWishEndsOneEpoch(t *testing.T) {
 
 // A wish is over once its epoch has begun, for whoever writes then.
 func TestAWishIsMetOnce(t *testing.T) {
+	t.Parallel()
 	world := newWorld(t, settings, shop)
 	world.next()
 	world.keep(world.seal()) // the wish
@@ -157,6 +163,7 @@ func TestAWishIsMetOnce(t *testing.T) {
 }
 
 func TestEachEpochTellsWithWhatTheScriptBegan(t *testing.T) {
+	t.Parallel()
 	world := newWorld(t, settings, shop)
 	is(t, nil, world.core.AskNext(Wish{From: 1, Settings: script.Settings{Every: 7}, Declarations: append(shop[:5:5], "object milk 1", "start")}))
 	world.write()
@@ -175,6 +182,7 @@ func TestEachEpochTellsWithWhatTheScriptBegan(t *testing.T) {
 }
 
 func TestAWishReplacesAnother(t *testing.T) {
+	t.Parallel()
 	world := newWorld(t, settings, append(shop[:4:4], "site east 1", "start"))
 	world.ask("ann", 1, "add:tea:-1")
 	world.next("object tea 1", "site north 1", "site south 1", "start")
@@ -199,6 +207,7 @@ func TestAWishReplacesAnother(t *testing.T) {
 }
 
 func TestWishesThatCannotBe(t *testing.T) {
+	t.Parallel()
 	world := newWorld(t, settings, shop)
 	for _, wish := range []Wish{
 		{From: 1, Declarations: []string{"start"}}, {From: 1, Declarations: shop[:5]}, {From: 1, Declarations: []string{"\xff"}},
@@ -216,6 +225,7 @@ func TestWishesThatCannotBe(t *testing.T) {
 }
 
 func TestASiteLeavesOnceItHasNoLease(t *testing.T) {
+	t.Parallel()
 	world := newWorld(t, settings, shop)
 	world.ask("ann", 1, "add:tea:-1")
 	world.ask("ann", 2, "add:tea:-1")
@@ -247,6 +257,7 @@ func TestASiteLeavesOnceItHasNoLease(t *testing.T) {
 }
 
 func TestASiteThatLeavesIdleWaitsForItsLeaseToo(t *testing.T) {
+	t.Parallel()
 	world := newWorld(t, settings, shop)
 	world.next("object tea 5", "site south 1", "start")
 	is(t, 1, world.write())
@@ -260,6 +271,7 @@ func TestASiteThatLeavesIdleWaitsForItsLeaseToo(t *testing.T) {
 }
 
 func TestAfterASiteIsGoneTheEpochMayGoOn(t *testing.T) {
+	t.Parallel()
 	world := newWorld(t, settings, shop)
 	world.ask("ann", 1, "add:tea:-1")
 	world.write()
@@ -277,6 +289,7 @@ func TestAfterASiteIsGoneTheEpochMayGoOn(t *testing.T) {
 }
 
 func TestClientsAreCarriedOverByManyEntries(t *testing.T) {
+	t.Parallel()
 	world := newWorld(t, script.Settings{Every: MostEvery, Remembers: 1, Origin: "0", Ordup: "1"}, []string{"object tea 0", "site a 1", "start"})
 	requests := []Request{}
 	for client := 0; client < 9000; client++ {
@@ -323,6 +336,7 @@ func TestClientsAreCarriedOverByManyEntries(t *testing.T) {
 
 // A program that has two versions runs the old one until an operator wishes for the new one. Who has the old one alone ends there.
 func TestAnotherVersionOfOrdup(t *testing.T) {
+	t.Parallel()
 	world := newWorld(t, settings, shop)
 	both := config("p2")
 	both.Versions = []string{"2", "1"}
@@ -360,6 +374,7 @@ func TestAnotherVersionOfOrdup(t *testing.T) {
 }
 
 func TestAStoreThatAnswersOtherwiseIsNoticed(t *testing.T) {
+	t.Parallel()
 	world := newWorld(t, settings, shop)
 	world.ask("ann", 1, "add:tea:-1")
 	world.write()

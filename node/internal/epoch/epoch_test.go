@@ -142,6 +142,7 @@ func is(t *testing.T, wants, has any) {
 }
 
 func TestEachNumberIsAnsweredOnce(t *testing.T) {
+	t.Parallel()
 	world := newWorld(t, settings, shop)
 	is(t, Reply{Kind: Waits}, world.ask("ann", 5, "add:tea:-1"))
 	is(t, Reply{Kind: Waits}, world.ask("ann", 5, "add:tea:-1"))
@@ -166,6 +167,7 @@ func TestEachNumberIsAnsweredOnce(t *testing.T) {
 }
 
 func TestAClientThatDoesNotWait(t *testing.T) {
+	t.Parallel()
 	world := newWorld(t, settings, shop)
 	replies, err := world.core.Ask([]Request{{"ann", 1, "add:tea:-1"}, {"ann", 1, "add:tea:-1"}, {"ann", 2, "add:tea:-1"},
 		{"ann", 1, "add:tea:-1"}, {"ann", 2, "add:tea:-3"}}, world.now)
@@ -190,6 +192,7 @@ func TestAClientThatDoesNotWait(t *testing.T) {
 }
 
 func TestAnAnswerIsToldOnceItsEntryIsWritten(t *testing.T) {
+	t.Parallel()
 	world := newWorld(t, settings, shop)
 	world.ask("ann", 1, "add:tea:-1")
 	first := world.seal()
@@ -212,6 +215,7 @@ func TestAnAnswerIsToldOnceItsEntryIsWritten(t *testing.T) {
 
 // What a client is told for good stands in the script: where the batch is lost, the other request may be done.
 func TestNothingIsToldForGoodOfWhatIsNotWritten(t *testing.T) {
+	t.Parallel()
 	world := newWorld(t, settings, shop)
 	world.ask("ann", 1, "add:tea:-1")
 	world.ask("bob", 2, "add:tea:-1")
@@ -235,6 +239,7 @@ func TestNothingIsToldForGoodOfWhatIsNotWritten(t *testing.T) {
 }
 
 func TestPlacesThatCannotBe(t *testing.T) {
+	t.Parallel()
 	world := newWorld(t, settings, shop)
 	world.ask("ann", 1, "add:tea:-1")
 	batch := world.seal()
@@ -257,6 +262,7 @@ func TestPlacesThatCannotBe(t *testing.T) {
 }
 
 func TestWhatNobodyWaitsForIsWrittenLater(t *testing.T) {
+	t.Parallel()
 	world := newWorld(t, settings, shop)
 	world.ask("ann", 1, "add:tea:-1")
 	world.write()
@@ -274,6 +280,7 @@ func TestWhatNobodyWaitsForIsWrittenLater(t *testing.T) {
 }
 
 func TestAnotherCoreComesToTheSame(t *testing.T) {
+	t.Parallel()
 	world := newWorld(t, settings, shop)
 	for number := int64(1); number < 20; number++ {
 		world.ask("ann", number, "add:tea:-1 add:till:2")
@@ -293,6 +300,7 @@ func TestAnotherCoreComesToTheSame(t *testing.T) {
 }
 
 func TestWhatIsNoScript(t *testing.T) {
+	t.Parallel()
 	world := newWorld(t, settings, shop)
 	world.ask("ann", 1, "add:tea:-1")
 	world.write()

@@ -23,6 +23,7 @@ func asks(client string, number int64) script.Step {
 // Entries that no primary without a mistake writes are refused by all who run the script, with this in what they say. Before each the shop
 // has one update, which is acknowledged, and the next epoch is wished for. North has told nothing, and south has told all.
 func TestWhoRunsTheScriptDoesNotBelieveItsWriter(t *testing.T) {
+	t.Parallel()
 	ends := append([]string{"object tea 99"}, shop[1:]...)
 	known := script.Step{Kind: script.Known, Client: "ann", Number: 7, Digest: script.DigestOf("add:tea:-1"), Epoch: 1,
 		Answer: script.Answer{Place: 1, Epoch: 1}}
@@ -75,6 +76,7 @@ func TestWhoRunsTheScriptDoesNotBelieveItsWriter(t *testing.T) {
 
 // An epoch ends because of a wish, or of so many requests, and once all is acknowledged.
 func TestAnEpochThatIsNotDueDoesNotEnd(t *testing.T) {
+	t.Parallel()
 	world := newWorld(t, settings, shop)
 	world.ask("ann", 1, "add:tea:-1")
 	world.ask("ann", 2, "add:tea:-1")
@@ -92,6 +94,7 @@ func TestAnEpochThatIsNotDueDoesNotEnd(t *testing.T) {
 
 // An answer in the script is that of the client, the number and the changes, and not only of the same text.
 func TestAnAnswerIsOfWhoAsked(t *testing.T) {
+	t.Parallel()
 	for name, change := range map[string]func(*script.Step){
 		"client":  func(answer *script.Step) { answer.Client = "bob" },
 		"number":  func(answer *script.Step) { answer.Number = 2 },

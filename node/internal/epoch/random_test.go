@@ -28,6 +28,7 @@ func newRun(t *testing.T, every script.Settings, seed int64) *randomRun {
 }
 
 func TestRandomRuns(t *testing.T) {
+	t.Parallel()
 	for seed := int64(1); seed <= 60; seed++ {
 		every := settings
 		every.Every, every.Remembers, every.Seconds = 30, 2, seed%3*20
@@ -197,6 +198,7 @@ func (r *randomRun) keepsToRoom(entry *script.Entry) {
 
 // Entries of any bytes, and steps where they do not belong, are refused or run, and never a panic.
 func TestAnyEntries(t *testing.T) {
+	t.Parallel()
 	chance := rand.New(rand.NewSource(7))
 	every := settings
 	every.Every = 5

@@ -6,6 +6,7 @@ import (
 )
 
 func TestAStatusSaysWhatIsWaitedFor(t *testing.T) {
+	t.Parallel()
 	world := newWorld(t, settings, shop)
 	of := func(name string) SiteStatus {
 		for _, site := range world.core.Status(world.now).Sites {
@@ -36,6 +37,7 @@ func TestAStatusSaysWhatIsWaitedFor(t *testing.T) {
 
 // Each head waits for its own round, and between two of them none does.
 func TestAHeadWaitsSinceItsOwnRound(t *testing.T) {
+	t.Parallel()
 	world := newWorld(t, settings, shop)
 	waits := func() time.Duration { return world.core.Status(world.now).HeadWaits }
 	for round := int64(1); round <= 2; round++ {
@@ -52,6 +54,7 @@ func TestAHeadWaitsSinceItsOwnRound(t *testing.T) {
 }
 
 func TestACoreIsIdleOnceAllIsWritten(t *testing.T) {
+	t.Parallel()
 	world := newWorld(t, settings, shop)
 	is(t, true, world.core.IsIdle())
 	world.ask("ann", 1, "add:tea:-1")

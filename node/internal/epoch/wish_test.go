@@ -9,6 +9,7 @@ import (
 var otherWish = script.Settings{Every: 7}
 
 func TestAnEpochHasBegunOnceItsEntryIsWritten(t *testing.T) {
+	t.Parallel()
 	world := newWorld(t, settings, shop)
 	world.next()
 	world.keep(world.seal()) // the wish
@@ -20,6 +21,7 @@ func TestAnEpochHasBegunOnceItsEntryIsWritten(t *testing.T) {
 
 // An operator is refused by a wish that is written: where the batch is lost, the other wish may come true.
 func TestAWishIsRefusedByOneThatIsWritten(t *testing.T) {
+	t.Parallel()
 	world := newWorld(t, settings, shop)
 	world.next()
 	is(t, ErrNotNow, world.core.AskNext(Wish{From: 1, Settings: otherWish}))
@@ -39,6 +41,7 @@ func TestAWishIsRefusedByOneThatIsWritten(t *testing.T) {
 
 // While clients are carried over the same wish is the same, and after an epoch that was due without one a wish has to wait.
 func TestAWishWhileClientsAreCarriedOver(t *testing.T) {
+	t.Parallel()
 	for name, row := range map[string]struct {
 		wished               bool
 		same, other, replace error

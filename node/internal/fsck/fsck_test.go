@@ -114,6 +114,7 @@ func run(folders []string, opened *engine.Engine) (string, error) {
 func asItIs(_, text string) string { return text }
 
 func TestAScriptIsRight(t *testing.T) {
+	t.Parallel()
 	folder := write(t, scriptOf(t, 3), asItIs)
 	text, err := run([]string{folder, write(t, scriptOf(t, 2), asItIs)}, nil)
 	if err != nil || strings.Count(text, "\n") != 3 || !strings.Contains(text, "epoch 2") || !strings.Contains(text, "updates 4 clients 3 north yes ") {
@@ -122,6 +123,7 @@ func TestAScriptIsRight(t *testing.T) {
 }
 
 func TestWhatIsWrongIsFound(t *testing.T) {
+	t.Parallel()
 	entries := scriptOf(t, 3)
 	second := func(old, new string) func(string, string) string {
 		return func(name, text string) string {
@@ -195,6 +197,7 @@ func TestWhatIsWrongIsFound(t *testing.T) {
 
 // Where an operator gives other declarations, the records of a site begin anew.
 func TestAScriptIsRightThatWasDeclaredAnew(t *testing.T) {
+	t.Parallel()
 	folder := write(t, redeclared(t, 3, append([]string{"object milk 7"}, declarations...)), asItIs)
 	if text, err := run([]string{folder}, nil); err != nil || strings.Count(text, "\n") != 3 {
 		t.Error(err, text)
@@ -202,6 +205,7 @@ func TestAScriptIsRightThatWasDeclaredAnew(t *testing.T) {
 }
 
 func TestAClientThatIsLeftOutIsFound(t *testing.T) {
+	t.Parallel()
 	entries := scriptOf(t, 2)
 	for _, entry := range entries {
 		if entry.Steps[0].Kind == script.Known && entry.Epoch == 2 {
@@ -214,6 +218,7 @@ func TestAClientThatIsLeftOutIsFound(t *testing.T) {
 }
 
 func TestTheEngineGoesOnFromTheArchives(t *testing.T) {
+	t.Parallel()
 	members, entries := etcdtest.Start(t, 1), scriptOf(t, 3)
 	opened, last, ctx := members.Engine(), int64(0), context.Background()
 	for at, entry := range entries {

@@ -7,6 +7,7 @@ import (
 )
 
 func TestLines(t *testing.T) {
+	t.Parallel()
 	var lines bytes.Buffer
 	log, now := New(&lines), time.Unix(0, 5_000_000)
 	log.now = func() time.Time { return now }

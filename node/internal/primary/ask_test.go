@@ -12,6 +12,7 @@ import (
 
 // Who has no answer in time is told for which sites that waits.
 func TestNoAnswerNamesTheSites(t *testing.T) {
+	t.Parallel()
 	deployment := deploy(t, 1)
 	one, _ := deployment.primary(deployment.config("p1"))
 	for number := int64(1); number <= 3; number++ {

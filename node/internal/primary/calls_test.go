@@ -24,6 +24,7 @@ func answer(client string, decided script.Answer) []script.Step {
 
 // Who gives up while the core looks at the request is forgotten too.
 func TestWhoGivesUpIsForgotten(t *testing.T) {
+	t.Parallel()
 	calls := newCalls()
 	waits, queued, taken, later := ask("ann"), ask("bob"), ask("cec"), ask("dan")
 	calls.sort([]*call{waits}, []epoch.Reply{{Kind: epoch.Waits}})
@@ -42,6 +43,7 @@ func TestWhoGivesUpIsForgotten(t *testing.T) {
 
 // Of those that ask for the same, each may give up. The others have the answer, and none waits then.
 func TestWhoIsAnsweredWaitsNoMore(t *testing.T) {
+	t.Parallel()
 	const count = 4
 	for first := 0; first < count; first++ {
 		calls, all := newCalls(), []*call{}
@@ -77,6 +79,7 @@ func TestWhoIsAnsweredWaitsNoMore(t *testing.T) {
 
 // The last entry names its writer also after that writes no more. The process then knows of none.
 func TestAProcessThatWritesNoMoreDoesNotNameItself(t *testing.T) {
+	t.Parallel()
 	calls := newCalls()
 	for _, row := range []struct {
 		open          bool

@@ -9,6 +9,7 @@ import (
 
 // A place is of this script where it names an entry of the epoch as it is here.
 func TestAPlaceNamesAnEntryOfThisScript(t *testing.T) {
+	t.Parallel()
 	digests, mark := digests{}, engine.Mark{}
 	add := func(number int64, text string, begins bool) string {
 		mark.Set(number, []byte(text))

@@ -7,6 +7,7 @@ import (
 )
 
 func TestRoundsNeverGetLess(t *testing.T) {
+	t.Parallel()
 	rounds := rounds{}
 	of := func(number, count int64) *epoch.Status {
 		return &epoch.Status{Epoch: number, Sites: []epoch.SiteStatus{{Name: "north", Rounds: count}}}

@@ -27,6 +27,7 @@ func tokens(t *testing.T, text string) string {
 }
 
 func TestEachRoleHasItsTokens(t *testing.T) {
+	t.Parallel()
 	guard, writer := &serve.Guard{}, &writer{answer: script.Answer{Place: 1, Epoch: 1}}
 	for role, text := range map[serve.Role]string{serve.Clients: "client-token-0001\n", serve.Sites: "site-token-00001\n",
 		serve.Operators: "# old and new\noperator-token-1\noperator-token-2\n"} {
@@ -70,6 +71,7 @@ func TestEachRoleHasItsTokens(t *testing.T) {
 
 // Whoever may read a file of tokens has its roles, so it is said where that is each user of the host.
 func TestAFileOfTokensThatAllReadIsTold(t *testing.T) {
+	t.Parallel()
 	var said bytes.Buffer
 	guard := &serve.Guard{Log: logs.New(&said)}
 	for mode, wants := range map[os.FileMode]int{0o600: 0, 0o640: 0, 0o644: 1} {
@@ -86,6 +88,7 @@ func TestAFileOfTokensThatAllReadIsTold(t *testing.T) {
 
 // A browser keeps a password, and sends it for any page. So it is for what is read.
 func TestAPasswordIsForWhatIsRead(t *testing.T) {
+	t.Parallel()
 	guard, writer := &serve.Guard{}, &writer{answer: script.Answer{Place: 1, Epoch: 1}}
 	if err := guard.Load(serve.Operators, tokens(t, "operator-token-1\n")); err != nil {
 		t.Fatal(err)
@@ -105,6 +108,7 @@ func TestAPasswordIsForWhatIsRead(t *testing.T) {
 
 // A page of any origin may have a browser send what needs no header of its own. None of that changes something, with tokens or without.
 func TestNoPageInABrowserChangesSomething(t *testing.T) {
+	t.Parallel()
 	writer := &writer{answer: script.Answer{Place: 1, Epoch: 1}}
 	address := startPrimary(t, nil, writer)
 	place := `{"site":"north","member":"north","epoch":1,"applied":1,"entry":1}`
@@ -138,6 +142,7 @@ func TestNoPageInABrowserChangesSomething(t *testing.T) {
 
 // Once somebody needs a token, a role without one is closed, unless it is said to be open.
 func TestARoleWithoutTokensIsClosed(t *testing.T) {
+	t.Parallel()
 	place := `{"site":"north","member":"north","epoch":1,"applied":1,"entry":1}`
 	for _, row := range []struct {
 		open                               []serve.Role
@@ -176,6 +181,7 @@ func TestARoleWithoutTokensIsClosed(t *testing.T) {
 
 // A token that names a site tells for it alone: at a primary under its name in the script, and at a fleet under its own.
 func TestATokenOfASiteTellsForItAlone(t *testing.T) {
+	t.Parallel()
 	guard, writer := &serve.Guard{}, &writer{}
 	if err := guard.Load(serve.Sites, tokens(t, "token-of-any-site\ntoken-of-far-0001 far\ntoken-of-east-001 east # and more\n")); err == nil {
 		t.Error("a line has more than a token and a site")

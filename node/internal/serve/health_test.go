@@ -11,6 +11,7 @@ import (
 
 // Who ends is well and not ready, and answers what comes by then.
 func TestWhoEndsIsNotReady(t *testing.T) {
+	t.Parallel()
 	var handler serve.Handler
 	address := listenAt(t, func(string) http.Handler {
 		handler = serve.NewSite(config(nil), "north", &reader{place: 5})
@@ -29,6 +30,7 @@ func TestWhoEndsIsNotReady(t *testing.T) {
 
 // Whoever asks for numbers takes no room of health. Both say whether the process goes on, however many look at it.
 func TestHealthHasARoomOfItsOwn(t *testing.T) {
+	t.Parallel()
 	goOn, config := make(chan struct{}), config(nil)
 	config.Numbers = http.HandlerFunc(func(http.ResponseWriter, *http.Request) { <-goOn })
 	address := listenAt(t, func(string) http.Handler { return serve.NewSite(config, "north", &reader{place: 5}) })

@@ -9,6 +9,7 @@ import (
 
 // A token that came by TLS goes on by TLS alone.
 func TestWhatCameByTLSGoesNoOtherWay(t *testing.T) {
+	t.Parallel()
 	count := 0
 	plain := httptest.NewServer(http.HandlerFunc(func(http.ResponseWriter, *http.Request) { count++ }))
 	defer plain.Close()

@@ -131,6 +131,7 @@ func is(t *testing.T, what string, status int, text string, wantStatus int, want
 const good = `{"client":"ann","number":7,"changes":["add:tea:-5","add:till:20"]}`
 
 func TestAnUpdateIsAnswered(t *testing.T) {
+	t.Parallel()
 	writer := &writer{}
 	address := startPrimary(t, nil, writer)
 	for _, row := range []struct {
@@ -163,6 +164,7 @@ func TestAnUpdateIsAnswered(t *testing.T) {
 }
 
 func TestWhatIsNoRequestIsRefused(t *testing.T) {
+	t.Parallel()
 	writer := &writer{answer: script.Answer{Place: 1, Epoch: 1}}
 	address := startPrimary(t, nil, writer)
 	for _, row := range []struct {
@@ -219,6 +221,7 @@ func TestWhatIsNoRequestIsRefused(t *testing.T) {
 }
 
 func TestAnotherPrimaryPassesOn(t *testing.T) {
+	t.Parallel()
 	first, second := &writer{answer: script.Answer{Place: 3, Epoch: 2}}, &writer{}
 	one := startPrimary(t, nil, first)
 	other := startPrimary(t, nil, second)
@@ -289,6 +292,7 @@ func startFleet(t *testing.T, primary string) (asker, upper *client.Client) {
 }
 
 func TestAPlaceThatCannotBeComesBack(t *testing.T) {
+	t.Parallel()
 	place := epoch.Place{Site: "far", Member: "east", Epoch: 1, Applied: 7, Entry: 3}
 	writer := &writer{err: &epoch.CannotBeError{Place: place, Updates: 5}}
 	asker, upper := startFleet(t, startPrimary(t, nil, writer))
@@ -320,6 +324,7 @@ func TestAPlaceThatCannotBeComesBack(t *testing.T) {
 }
 
 func TestASiteOfAFleetStaysAtTheFleet(t *testing.T) {
+	t.Parallel()
 	first, second := &writer{}, &writer{}
 	one, other := startPrimary(t, nil, first), startPrimary(t, nil, second)
 	// While one takes over, each names the other one.
@@ -363,6 +368,7 @@ func (r *reader) Read(ctx context.Context, seen site.Seen) (site.Reading, error)
 }
 
 func TestAReaderIsShownNoLess(t *testing.T) {
+	t.Parallel()
 	reader := &reader{place: 5}
 	address := listenAt(t, func(string) http.Handler { return serve.NewSite(config(nil), "north", reader) })
 	showing := `"site":"north","epoch":1,"place":5,"seen":"1.5","lease_seconds":2,"limits":["count 3"]`
@@ -399,6 +405,7 @@ func TestAReaderIsShownNoLess(t *testing.T) {
 }
 
 func TestTooManyRequestsAreRefused(t *testing.T) {
+	t.Parallel()
 	writer := &writer{}
 	address := startPrimary(t, nil, writer)
 	var waiting sync.WaitGroup
@@ -425,6 +432,7 @@ func TestTooManyRequestsAreRefused(t *testing.T) {
 }
 
 func TestTheTableHasEachError(t *testing.T) {
+	t.Parallel()
 	source, err := os.ReadFile("../wire/wire.go")
 	if err != nil {
 		t.Fatal(err)

@@ -10,6 +10,7 @@ import (
 
 // Each name of the table of package wire is one of some error of a process.
 func TestEachNameIsOfAnError(t *testing.T) {
+	t.Parallel()
 	table, err := os.ReadFile("../wire/wire.go")
 	if err != nil {
 		t.Fatal(err)

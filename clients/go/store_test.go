@@ -57,6 +57,7 @@ func one(t *testing.T, wanted uint64) func(uint64, error) {
 }
 
 func TestTheTourOfTheReadmeByMethods(t *testing.T) {
+	t.Parallel()
 	store := shop(t)
 	one(t, 1)(store.Propose(Add("tea", -5)))
 	settled, err := store.Settle()
@@ -85,6 +86,7 @@ func TestTheTourOfTheReadmeByMethods(t *testing.T) {
 }
 
 func TestTheOtherCommandsByMethods(t *testing.T) {
+	t.Parallel()
 	store := open(t)
 	for _, name := range []string{"a", "b", "c", "d", "e", "f"} {
 		is(t, nil, nil, store.Object(name, 7))
@@ -108,6 +110,7 @@ func TestTheOtherCommandsByMethods(t *testing.T) {
 }
 
 func TestARefusalChangesNothing(t *testing.T) {
+	t.Parallel()
 	store := shop(t)
 	_, err := store.Apply("south")
 	isRefused(t, 16, "NothingToApply", err)
@@ -121,6 +124,7 @@ func TestARefusalChangesNothing(t *testing.T) {
 }
 
 func TestWhatIsNoCommandIsNotAsked(t *testing.T) {
+	t.Parallel()
 	store := shop(t)
 	isBad := func(text string, err error) {
 		t.Helper()
@@ -150,15 +154,18 @@ func TestWhatIsNoCommandIsNotAsked(t *testing.T) {
 }
 
 func TestANameMayHave16Letters(t *testing.T) {
+	t.Parallel()
 	is(t, nil, nil, open(t).Object("sixteen_letters_", 0))
 }
 
 func TestALineThatBeginsWithASpaceIsNoComment(t *testing.T) {
+	t.Parallel()
 	_, err := open(t).Command(" # no comment")
 	isRefused(t, 1, "Syntax", err)
 }
 
 func TestManyCommandsHaveTheirAnswersInOrder(t *testing.T) {
+	t.Parallel()
 	given, err := shop(t).Commands("settle", "propose add:tea:1", "bad", "settle")
 	wanted := []Answer{
 		&Refused{Number: 17, Name: "NothingToSettle", Line: "settle"}, Proposed{Place: 1}, &Refused{Number: 1, Name: "Syntax", Line: "bad"}, Settled{State: Acked, Place: 1, Sites: []string{}},
@@ -169,6 +176,7 @@ func TestManyCommandsHaveTheirAnswersInOrder(t *testing.T) {
 }
 
 func TestLinesHaveTheirAnswers(t *testing.T) {
+	t.Parallel()
 	store := open(t)
 	for _, it := range [][2]string{
 		{"object x 0\nsite a 2\nlimit a object x 5\nstart", "ok object x\nok site a\nok limit a\nok start\n"},
@@ -181,6 +189,7 @@ func TestLinesHaveTheirAnswers(t *testing.T) {
 }
 
 func TestALongAnswerComesWhole(t *testing.T) {
+	t.Parallel()
 	store := open(t)
 	for object := 0; object < 256; object++ {
 		is(t, nil, nil, store.Object(fmt.Sprintf("object_%d", object), -1000000000))
@@ -196,6 +205,7 @@ func TestALongAnswerComesWhole(t *testing.T) {
 }
 
 func TestARecordIsToldAndChecked(t *testing.T) {
+	t.Parallel()
 	store := open(t)
 	if _, err := store.Record("a"); err != ErrNotStarted {
 		t.Error(err)
@@ -221,6 +231,7 @@ func TestARecordIsToldAndChecked(t *testing.T) {
 }
 
 func TestASeriesIsChecked(t *testing.T) {
+	t.Parallel()
 	series := `ordup,2,a,2
 object,1,tea,40
 limit,1,object:tea,5@1
@@ -241,21 +252,24 @@ round,1,2,-
 window,1,0,2
 `
 	for _, it := range []struct {
-		before, after string
-		wanted        SeriesVerdict
+		name, before, after string
+		wanted              SeriesVerdict
 	}{
-		{"", "", SeriesVerdict{Kind: Yes, Rounds: 2}},
-		{"tea,34", "tea,35", SeriesVerdict{Kind: No, Record: 2, Row: 2, Reason: "NotNext"}},
-		{",a,3", ",b,3", SeriesVerdict{Kind: No, Record: 2, Row: 1, Reason: "NotNext"}},
-		{"report,3", "report,4", SeriesVerdict{Kind: Malformed, Record: 2, Row: 8}},
-		{series, "", SeriesVerdict{Kind: Malformed, Record: 1, Row: 1}},
+		{"as it is", "", "", SeriesVerdict{Kind: Yes, Rounds: 2}},
+		{"another value", "tea,34", "tea,35", SeriesVerdict{Kind: No, Record: 2, Row: 2, Reason: "NotNext"}},
+		{"another site", ",a,3", ",b,3", SeriesVerdict{Kind: No, Record: 2, Row: 1, Reason: "NotNext"}},
+		{"too many reported", "report,3", "report,4", SeriesVerdict{Kind: Malformed, Record: 2, Row: 8}},
+		{"nothing", series, "", SeriesVerdict{Kind: Malformed, Record: 1, Row: 1}},
 	} {
-		verdict, err := CheckSeries([]byte(strings.Replace(series, it.before, it.after, 1)))
-		is(t, it.wanted, verdict, err)
+		t.Run(it.name, func(t *testing.T) {
+			verdict, err := CheckSeries([]byte(strings.Replace(series, it.before, it.after, 1)))
+			is(t, it.wanted, verdict, err)
+		})
 	}
 }
 
 func TestTheSuccessorIsDeclared(t *testing.T) {
+	t.Parallel()
 	store := open(t)
 	if _, err := store.NextDeclarations(); err != ErrNotStarted {
 		t.Error(err)
@@ -274,6 +288,7 @@ func TestTheSuccessorIsDeclared(t *testing.T) {
 }
 
 func TestALongRecordComesWhole(t *testing.T) {
+	t.Parallel()
 	store := shop(t)
 	_, err := store.Run([]byte(strings.Repeat("propose add:tea:0\nsettle\n", 10000)))
 	is(t, nil, nil, err)
@@ -282,6 +297,7 @@ func TestALongRecordComesWhole(t *testing.T) {
 }
 
 func TestGoroutinesShareAStore(t *testing.T) {
+	t.Parallel()
 	store := shop(t)
 	places := make([][]uint64, 8)
 	var group sync.WaitGroup
@@ -315,6 +331,7 @@ func TestGoroutinesShareAStore(t *testing.T) {
 }
 
 func TestAClosedStore(t *testing.T) {
+	t.Parallel()
 	store := shop(t)
 	is(t, nil, nil, store.Close())
 	is(t, nil, nil, store.Close())
@@ -325,6 +342,7 @@ func TestAClosedStore(t *testing.T) {
 }
 
 func TestTwoStoresAreTwo(t *testing.T) {
+	t.Parallel()
 	first, second := shop(t), shop(t)
 	one(t, 1)(first.Propose(Add("tea", 1)))
 	one(t, 1)(second.Propose(Add("tea", 1)))

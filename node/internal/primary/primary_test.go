@@ -325,16 +325,18 @@ func TestWhoMayNotRun(t *testing.T) {
 	is(t, exit.Words, exit.Of(<-process.done))
 	one, _ := deployment.primary(deployment.config("p1"))
 	until(t, 10*time.Second, "p1 does not write", func() bool { return one.Status().Writes })
-	for _, change := range []func(*primary.Config){
-		func(config *primary.Config) { config.Every++ },
-		func(config *primary.Config) { config.Remembers++ },
-		func(config *primary.Config) { config.Declarations = shop[1:] },
-		func(config *primary.Config) { config.Versions = []string{"2"} },
+	for name, change := range map[string]func(*primary.Config){
+		"longer epochs":      func(config *primary.Config) { config.Every++ },
+		"a longer memory":    func(config *primary.Config) { config.Remembers++ },
+		"other declarations": func(config *primary.Config) { config.Declarations = shop[1:] },
+		"another version":    func(config *primary.Config) { config.Versions = []string{"2"} },
 	} {
-		config := deployment.config("p2")
-		change(&config)
-		_, process = deployment.primary(config)
-		is(t, exit.Words, exit.Of(<-process.done))
+		t.Run(name, func(t *testing.T) {
+			config := deployment.config("p2")
+			change(&config)
+			_, process := deployment.primary(config)
+			is(t, exit.Words, exit.Of(<-process.done))
+		})
 	}
 	other := site.Config{Engine: deployment.members.Engine(), Open: openStore, Name: "north", Host: "h", Versions: []string{"2"}, Teller: deployment}
 	made, err := site.New(other)

@@ -84,6 +84,7 @@ func (w *written) replay(replica *Replica) (*Shown, error) {
 func at(name string) *Replica { return NewReplica(openStore, []string{"1"}, name, 1) }
 
 func TestASiteShowsWhatTheScriptComesTo(t *testing.T) {
+	t.Parallel()
 	script := newWritten(t)
 	script.ask("ann", 1, "add:tea:-5 add:till:20")
 	script.ask("bob", 1, "add:tea:2000000000")
@@ -101,6 +102,7 @@ func TestASiteShowsWhatTheScriptComesTo(t *testing.T) {
 }
 
 func TestMoreUpdatesThanTheFeedHas(t *testing.T) {
+	t.Parallel()
 	script := newWritten(t)
 	for number := int64(1); number <= 2*feed+7; number++ {
 		script.ask("ann", number, "add:tea:1")
@@ -112,6 +114,7 @@ func TestMoreUpdatesThanTheFeedHas(t *testing.T) {
 }
 
 func TestASiteAcrossEpochs(t *testing.T) {
+	t.Parallel()
 	script := newWritten(t)
 	script.ask("ann", 1, "add:tea:-5")
 	script.write()
@@ -136,6 +139,7 @@ func TestASiteAcrossEpochs(t *testing.T) {
 }
 
 func TestASiteThatIsTakenOut(t *testing.T) {
+	t.Parallel()
 	script := newWritten(t)
 	is(t, nil, script.core.AskNext(epoch.Wish{From: 1, Declarations: []string{"object tea 1", "site south 1", "start"}}))
 	script.write()
@@ -149,6 +153,7 @@ func TestASiteThatIsTakenOut(t *testing.T) {
 }
 
 func TestWhatIsNoScriptAtASite(t *testing.T) {
+	t.Parallel()
 	script := newWritten(t)
 	script.ask("ann", 1, "add:tea:-5")
 	script.ask("bob", 1, "nonsense")
@@ -167,8 +172,10 @@ func TestWhatIsNoScriptAtASite(t *testing.T) {
 	// A store that takes what the primary's refused, or refuses what that took, or shows another place.
 	for _, wrong := range [][2]string{{"refused 1 Syntax", "ok proposed 2"}, {"ok proposed 1", "refused 9 OutOfRange"},
 		{"refused 1 Syntax", "refused 2 Syntax"}, {"applied 1", "applied 2"}, {"ok sent", "refused 14 NothingToSend"}, {"ok start", "no"}, {"tea=95", "tea=x"}} {
-		open := modelstore.OpenWrong(func(line, answer string) string { return strings.Replace(answer, wrong[0], wrong[1], 1) })
-		_, err := script.replay(NewReplica(open, []string{"1"}, "south", 1))
-		is(t, true, errors.As(err, &broken))
+		t.Run(wrong[1]+" for "+wrong[0], func(t *testing.T) {
+			open := modelstore.OpenWrong(func(line, answer string) string { return strings.Replace(answer, wrong[0], wrong[1], 1) })
+			_, err := script.replay(NewReplica(open, []string{"1"}, "south", 1))
+			is(t, true, errors.As(err, &broken))
+		})
 	}
 }

@@ -115,6 +115,8 @@
 //
 //	script       the form of an entry, and of an answer
 //	epoch        the core: what the script comes to, and the next entry. Pure
+//	lease        what a process decides of a key that it holds under a lease. Pure
+//	writer       what a primary that writes has on its way. Pure
 //	engine       etcd: transactions, pages, watches, leases. No other package asks it
 //	embedded     starts an etcd in this process, for the command try alone
 //	primary      the process that writes or stands by

@@ -275,7 +275,7 @@ inline judge(at) {
     z = 0; x = 0
 }
 
-/* engine/write.go Write: Txn If Then Commit refusal */
+/* engine/write.go Write: Compares Txn If Then Commit Refusal */ /* engine/compare.go Compares */
 #ifdef GONE_WITHOUT_A_COMPARE
 #define ABSENT(at, site) true
 #else
@@ -548,7 +548,7 @@ end:
            commit(FLYING, term_of[me], mode[me] == takes); flight[me] = written }   /* primary/write.go send: Write */
     :: d_step { flight[me] == sent && !(IS_NEXT(number_of[me]) && ALL_ABSENT(FLYING)) -> flight[me] = refused }
     :: atomic { flight[me] == written ->
-           mode[me] = writes; flight[me] = stands;   /* primary/write.go land: Written tell */
+           mode[me] = writes; flight[me] = stands;   /* primary/write.go land: Land tell */ /* writer/writer.go Land: Written */
 #ifndef TELLS_BEFORE_IT_WRITES
            tell_answers(FLYING);
 #endif
@@ -556,7 +556,7 @@ end:
 #ifdef GOES_ON_AFTER_A_REFUSAL
     :: d_step { flight[me] == refused -> mode[me] = writes; flight[me] = stands; number_of[me] = last; drop(FLYING) }
 #else
-    :: d_step { flight[me] == refused -> forget() }  /* primary/primary.go heed: forget */
+    :: d_step { flight[me] == refused -> forget() }  /* primary/primary.go heed: RunsAgain forget */
 #endif
     /* It loses its lease, and drops what is not written. */
     :: d_step { mode[me] == writes && flight[me] == stands && take_overs < TAKES ->
@@ -586,7 +586,7 @@ end:
            fi;
            it = 0 }
     /* A place comes, of those that were told. One of another epoch counts for nothing. */
-    :: atomic { mode[me] == writes ->                /* primary/ask.go Tell: mayTakeLocked check Tell */
+    :: atomic { mode[me] == writes ->                /* primary/ask.go Tell: mayTakeLocked Tell */ /* writer/digests.go Tell: check Tell */
            if :: it = 0
 #if NAMES > 1
               :: it = 1
@@ -641,12 +641,12 @@ end:
 #if HANDS
     /* A key that was put by hand, and that was seen for as long as the engine keeps a lease, is taken away. */
     :: d_step { mode[me] == writes && !CARRIES(OPEN) && core[OPEN].leaves && key[SITES - 1] == BY_HAND && NOBODY_RELIES ->
-           key[SITES - 1] = NOBODY }                 /* primary/leaving.go clear: Now RemoveKey */
+           key[SITES - 1] = NOBODY }                 /* primary/leaving.go clear: See RemoveKey */
 #endif
     :: atomic { mode[me] == writes && flight[me] == stands && number_of[me] < ENTRIES && core[OPEN].epoch < EPOCHS &&
                 (dirty[me] || SOME_TOLD || IS_DUE(OPEN)) ->
            if :: CARRIES(OPEN) :: else -> work() fi; /* primary/write.go work: take start seal */
-           seal() }                                  /* primary/write.go seal: Seal send */
+           seal() }                                  /* primary/write.go seal: Seal send */ /* writer/writer.go Seal: Seal Add */
     od
 }
 
@@ -685,7 +685,7 @@ end:
 #ifdef SERVES_WITHOUT_THE_LEASE
 #define LIVES (!over[me])
 #else
-#define LIVES relies[me]                             /* engine/lease.go Lives: Now */
+#define LIVES relies[me]                             /* lease/lease.go Lives */ /* engine/lease.go Lives: Lives */
 #endif
 /* A place is told again that a process of the fleet does not know. */
 #ifdef ANEW
@@ -707,7 +707,7 @@ end:
 #ifdef SERVES_BEFORE_A_PLACE_IS_TAKEN
 #define IS_TAKEN true
 #else
-#define IS_TAKEN taken[me]                           /* site/read.go served: now */
+#define IS_TAKEN taken[me]                           /* site/view.go Served */
 #endif
 /* Whether a key that is its own may be taken, which was created by a call whose answer was lost. */
 #ifdef TAKES_UP_WHAT_IT_GAVE_BACK
@@ -727,7 +727,7 @@ end:
 #define IS_MINE (key[SITE] == OWN && lease[SITE] == mine[me])
 #endif
 
-inline rely() {                                      /* engine/lease.go set */
+inline rely() {                                      /* lease/lease.go rely */
 #ifdef RELIES_FROM_THE_ANSWER
     relies[me] = true;
 #else
@@ -748,7 +748,7 @@ inline end_term() {
 }
 
 /* It relies no more, and then gives its lease back. The engine takes that away at once, never, or later. */
-inline give_up() {                                   /* engine/lease.go giveUp: held set revoke */ /* engine/lease.go revoke: Revoke */
+inline give_up() {                                   /* lease/lease.go GiveUp: revoke */ /* engine/lease.go revoke: Revoke */
     given[me] = mine[me];
     if
     :: IS_MINE -> key[SITE] = NOBODY
@@ -795,8 +795,8 @@ end:
     /* It looks for its key, and creates it where there is none. The answer may be lost. */
     :: atomic { !over[me] && stage[me] == no_key && shown[me] > 0 && shown[me] >= end_at_start[me] && key[SITE] == NOBODY &&
                 leases[SITE] < TERMS && (leases[SITE] > 0 || me % PROCESSES == 0) ->
-           leases[SITE]++;                           /* engine/lease.go acquire: find create awaitEnd renew take */
-           if                                        /* engine/lease.go create: Grant Txn Commit revoke take */
+           leases[SITE]++;                           /* engine/lease.go find: Get Found */ /* lease/lease.go Found */
+           if                                        /* engine/lease.go create: Grant Txn Commit Created */
            :: key[SITE] = OWN; lease[SITE] = leases[SITE]; mine[me] = leases[SITE]; stage[me] = created; fresh[me] = true
            :: key[SITE] = OWN; lease[SITE] = leases[SITE]
 #ifdef CREATES_LATE
@@ -816,13 +816,13 @@ end:
     :: d_step { stage[me] == no_key && from[me] == 0 && last > 0 -> from[me] = last }
 #endif
     /* It has the key: it reads the end of the script, and relies on the lease then. Where it cannot read that it gives the key back. */
-    :: d_step { stage[me] == created ->              /* engine/lease.go take: whenHeld revoke set */ /* site/site.go mayServe: Last */
+    :: d_step { stage[me] == created ->               /* lease/lease.go Created: begin revoke */ /* engine/lease.go begin: whenHeld Begun */
 #if defined(READS_THE_END_ONCE)
            if :: from[me] == 0 -> from[me] = last :: else fi;
 #elif !defined(READS_THE_END_FIRST)
            from[me] = last;
 #endif
-           taken[me] = false; stage[me] = looked }
+           taken[me] = false; stage[me] = looked }    /* site/site.go mayServe: Last Begin */ /* lease/lease.go Begun: revoke rely */
     :: d_step { stage[me] == looked ->
 #ifndef KEEPS_ITS_TERM
            bad[me] = 0;
@@ -833,14 +833,14 @@ end:
 #endif
     /* It asks the engine to renew the lease, which looks at the key too. The answer may be lost. */
     :: d_step { stage[me] == held && !renewed[me] && !fresh[me] && IS_MINE -> renewed[me] = true; fresh[me] = true }
-                                                     /* engine/lease.go renew: LeaseKeepAlive Send Recv Get */
-    :: atomic { stage[me] == held && !renewed[me] && !IS_MINE -> give_up() }   /* engine/lease.go step: Now renew giveUp set */
+                                                     /* engine/lease.go renew: LeaseKeepAlive Send Recv Get Renewed */
+    :: atomic { stage[me] == held && !renewed[me] && !IS_MINE -> give_up() }   /* lease/lease.go Renewed: rely GiveUp */
     :: atomic { renewed[me] -> renewed[me] = false; if :: d_step { rely() } :: fresh[me] = false fi }
     /* It gives the key back, to end. */
 #ifdef GIVES_BACK_FIRST
     :: d_step { stage[me] == held && IS_MINE -> key[SITE] = NOBODY }
 #endif
-    :: atomic { stage[me] == held && IS_MINE && leases[SITE] < TERMS -> give_up() }   /* engine/lease.go Run: giveUp step */
+    :: atomic { stage[me] == held && IS_MINE && leases[SITE] < TERMS -> give_up() }   /* engine/lease.go Run: giveUp step */ /* engine/lease.go step: do next revoke */
     :: d_step { revokes[me] -> if :: key[SITE] == OWN && lease[SITE] == revokes[me] -> key[SITE] = NOBODY :: else fi; revokes[me] = 0 }
     /* Time. */
     :: relies[me] -> relies[me] = false
@@ -857,7 +857,7 @@ end:
     :: d_step { lived[me] -> NEVER(READER_SEES_TOO_LITTLE, !REACHED || !IS_TAKEN || IS_ENOUGH); lived[me] = false }
 #else
     :: d_step { !bad[me] && MAY_READ && REACHED && IS_TAKEN && (!IS_ENOUGH || IS_GONE) ->
-           bad[me] = (IS_GONE -> 2 : 1) }            /* site/read.go now: Lock Unlock Lives */
+           bad[me] = (IS_GONE -> 2 : 1) }            /* site/view.go Look: take lives */
     :: bad[me] && LIVES ->
         NEVER(READER_SEES_TOO_LITTLE, bad[me] != 1);
         NEVER(GONE_SITE_SERVES, bad[me] != 2)
@@ -865,11 +865,11 @@ end:
     /* It tells the place that it shows, until one is taken in the term. */
 #if defined(UNLISTED) || defined(ANEW)
     :: d_step { MAY_TELL && REACHED && !over[me] && (IS_FOREIGN || IS_UNLISTED(SITE)) ->
-           over[me] = true; shown[me] = 0; end_term() }   /* site/site.go isRefused */
+           over[me] = true; shown[me] = 0; end_term() }   /* site/site.go IsRefused */
 #endif
 #ifndef UNLISTED
     :: atomic { MAY_TELL && REACHED && !IS_UNLISTED(SITE) && (PLACE > shown_and_told[SITE] || !taken[me] || IS_TOLD_AGAIN) ->
-           d_step {                                  /* site/site.go tellAll: now placeOf tell wasTaken */
+           d_step {                                  /* site/site.go tellAll: now PlaceOf tell wasTaken */
                if
                :: PLACE > shown_and_told[SITE] || IS_TOLD_AGAIN ->
                    shown_and_told[SITE] = (PLACE > shown_and_told[SITE] -> PLACE : shown_and_told[SITE]);

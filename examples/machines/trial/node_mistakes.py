@@ -6,8 +6,7 @@ Mistakes = dict[str, list[Edit]]
 
 TAKEN = "case request.Number > last.number:\n"
 OVER = "	return s.applied < updates || s.leaves && !s.gone\n"
-SERVED = "	shown, changed, first, term, taken := s.shown, s.changed, s.first, s.term, s.taken\n"
-SERVES = "	if shown == nil || shown.Entry < first || !s.lease.Lives(term) {\n"
+SERVES = "	if view.shown == nil || view.shown.Entry < view.first || !lives(view.term) {\n"
 SHOWS = "		s.show(shown)\n		if shown != nil && shown.Entry >= s.end {\n"
 RUNS = "			if err := s.run(raw); err != nil {\n				return err\n			}\n"
 
@@ -79,12 +78,11 @@ MISTAKES: Mistakes = {
     ],
     # Two processes of a site serve readers, since neither looks at the lease.
     "serves_without_the_lease": [
-        ("internal/site/read.go", SERVES, "	if shown == nil || shown.Entry < first {\n"),
+        ("internal/site/view.go", SERVES, "	if view.shown == nil || view.shown.Entry < view.first {\n"),
     ],
     # A site shows old values to readers while it applies the script from the beginning.
     "serves_before_it_has_caught_up": [
-        ("internal/site/read.go", SERVED, "	shown, changed, term, taken := s.shown, s.changed, s.term, s.taken\n"),
-        ("internal/site/read.go", SERVES, "	if shown == nil {\n"),
+        ("internal/site/view.go", SERVES, "	if view.shown == nil {\n"),
         (
             "internal/site/site.go",
             RUNS,
@@ -96,7 +94,7 @@ MISTAKES: Mistakes = {
         (
             "internal/site/site.go",
             SHOWS,
-            "		if shown != nil && s.lease.Held() {\n			s.tell(ctx, s.placeOf(shown))\n"
+            "		if shown != nil && s.lease.Held() {\n			s.tell(ctx, PlaceOf(s.inName, s.config.Name, shown))\n"
             "			time.Sleep(300 * time.Millisecond)\n		}\n" + SHOWS,
         ),
     ],
@@ -121,13 +119,13 @@ MISTAKES: Mistakes = {
         ),
     ],
     # A process relies on its lease for longer than the engine keeps it.
-    "relies_on_a_lease_that_is_over": [("internal/engine/lease.go", "	Relied = 3 * time.Second\n", "	Relied = 30 * time.Second\n")],
+    "relies_on_a_lease_that_is_over": [("internal/lease/lease.go", "	Relied = 3 * time.Second\n", "	Relied = 30 * time.Second\n")],
     # A process of a site tells its place though another one serves the readers.
     "tells_without_the_lease": [
         (
             "internal/site/site.go",
-            "		now := s.now()\n",
-            "		now := s.now()\n		s.lock.Lock()\n		now.shown = s.shown\n		s.lock.Unlock()\n",
+            "		now, changed := s.now()\n",
+            "		now, changed := s.now()\n		s.lock.Lock()\n		now.Shown = s.view.shown\n		s.lock.Unlock()\n",
         ),
     ],
     # Other changes under a number that was taken have the answer to those before.
@@ -137,10 +135,12 @@ MISTAKES: Mistakes = {
         ("internal/primary/standby.go", "			if err = p.agrees(core); err != nil {\n", "			if false {\n"),
     ],
     # A lease that was given back is taken up again, before the engine hears of that.
-    "takes_up_what_it_gave_back": [("internal/engine/lease.go", "	if id == l.given {\n", "	if false {\n")],
+    "takes_up_what_it_gave_back": [
+        ("internal/lease/lease.go", "	case found.Value != k.value || found.ID == k.given:\n", "	case found.Value != k.value:\n"),
+    ],
     # A site serves readers before anybody has taken a place of it, and goes on though it is told that it is no site.
     "serves_though_nobody_lists_it": [
-        ("internal/site/read.go", "	if !now.isTaken {\n", "	if false {\n"),
+        ("internal/site/view.go", "	if !m.IsTaken {\n", "	if false {\n"),
         ("internal/site/site.go", " || errors.Is(err, epoch.ErrNoSite)\n", "\n"),
     ],
     # A fleet tells of the sites that it lists, whoever else serves readers as one of it.

@@ -2,8 +2,6 @@ package engine
 
 import (
 	"context"
-	"errors"
-	"fmt"
 	"sync"
 	"time"
 
@@ -11,22 +9,23 @@ import (
 	pb "go.etcd.io/etcd/etcdserver/etcdserverpb"
 
 	"ordup.dev/node/internal/clock"
+	"ordup.dev/node/internal/lease"
 	"ordup.dev/node/internal/logs"
 )
 
 const (
-	// LeaseTime is after how long without renewal the engine drops a lease.
-	LeaseTime = 5 * time.Second
-	// Relied is for how long its holder relies on it, from before it asked. So two never rely on it at once while the clocks of the
-	// engine and of the holder run at rates that differ by less than two fifths.
-	Relied = 3 * time.Second
+	// LeaseTime and Relied are those of package lease.
+	LeaseTime, Relied = lease.Time, lease.Relied
 	// renewAfter is after how long a lease is renewed, and leaseCall how long a call for it may take.
 	renewAfter, leaseCall = Relied / 4, time.Second
 	// afterFailure is how long whoever was failed waits before it asks again.
 	afterFailure = 200 * time.Millisecond
 )
 
-// A Lease is a key that one process holds at a time, under a lease of the engine.
+// A Term is one of package lease.
+type Term = lease.Term
+
+// A Lease is a key that one process holds at a time, under a lease of the engine. Package lease decides what is asked, and what that means.
 type Lease struct {
 	engine     *Engine
 	key, value string
@@ -35,26 +34,20 @@ type Lease struct {
 	whenHeld func(context.Context, Term) error
 	log      *logs.Log
 
-	// What stands below lock up to the blank line is under it. Until is the moment, by package clock, up to which the process relies on the
-	// lease, and id is 0 where it has none.
+	// What stands below lock up to the blank line is under it. Its times are by package clock.
 	lock    sync.Mutex
-	until   time.Duration
-	term    Term
-	id      clientv3.LeaseID
+	state   lease.Key
 	changed chan struct{}
 
-	// The last lease that was given back, of the goroutine of Run alone. The engine may hear of that at any time, so it is never taken up
-	// again.
-	given clientv3.LeaseID
+	// The revision at which the key was looked for last, of the goroutine of Run alone.
+	revision int64
 }
-
-// A Term counts the times that a process got its key. Within one nobody else had it.
-type Term int64
 
 // NewLease gives a lease that Run takes. The value names the process, and no other one ever has the same. When the process has the key,
 // and before it relies on it, whenHeld is called with the term that begins; with an error the key is given up.
 func (e *Engine) NewLease(key, value string, log *logs.Log, whenHeld func(context.Context, Term) error) *Lease {
-	return &Lease{engine: e.Apart(), key: key, value: value, whenHeld: whenHeld, log: log, changed: make(chan struct{})}
+	return &Lease{engine: e.Apart(), key: key, value: value, whenHeld: whenHeld, log: log, state: lease.New(key, value),
+		changed: make(chan struct{})}
 }
 
 // NewSiteLease gives the lease of a process that serves a site of a fleet, or one that is none of a fleet and has its own name there. Of a
@@ -72,28 +65,28 @@ func (e *Engine) NewSiteLease(fleet, site, value string, log *logs.Log, whenHeld
 func (l *Lease) Lives(term Term) bool {
 	l.lock.Lock()
 	defer l.lock.Unlock()
-	return l.term == term && clock.Now() < l.until
+	return l.state.Lives(term, clock.Now())
 }
 
 // Until is until when the process may rely on the lease, as far as is known now.
 func (l *Lease) Until() time.Duration {
 	l.lock.Lock()
 	defer l.lock.Unlock()
-	return l.until
+	return l.state.Until()
 }
 
 // Held is whether the process has the key, as far as it knows. It may be lost by now.
 func (l *Lease) Held() bool {
 	l.lock.Lock()
 	defer l.lock.Unlock()
-	return l.id != 0
+	return l.state.Held()
 }
 
 // Relies is whether the process has the key, and may rely on it now.
 func (l *Lease) Relies() bool {
 	l.lock.Lock()
 	defer l.lock.Unlock()
-	return l.id != 0 && clock.Now() < l.until
+	return l.state.Relies(clock.Now())
 }
 
 // Changed is closed when after this call Held changes, or Relies becomes true.
@@ -103,23 +96,24 @@ func (l *Lease) Changed() <-chan struct{} {
 	return l.changed
 }
 
-func (l *Lease) set(id clientv3.LeaseID, until time.Duration) {
+// note has the state step on, and wakes who waits for a change.
+func (l *Lease) note(came func(state *lease.Key)) {
 	l.lock.Lock()
 	defer l.lock.Unlock()
-	now := clock.Now()
-	isNew := now >= l.until && now < until
-	l.until = until
-	if (l.id != 0) != (id != 0) || isNew {
+	now, state := clock.Now(), &l.state
+	held, relied := state.Held(), state.Relies(now)
+	came(state)
+	if state.Held() != held || state.Relies(now) && !relied {
 		close(l.changed)
 		l.changed = make(chan struct{})
 	}
-	l.id = id
 }
 
-func (l *Lease) held() clientv3.LeaseID {
+// next gives what is to be done now.
+func (l *Lease) next() lease.Step {
 	l.lock.Lock()
 	defer l.lock.Unlock()
-	return l.id
+	return l.state.Next(clock.Now())
 }
 
 // Run takes the key, renews its lease, and takes it again where it was lost, until the context ends. Then it gives it up.
@@ -131,34 +125,51 @@ func (l *Lease) Run(ctx context.Context) {
 		if err == nil || ctx.Err() != nil {
 			continue
 		}
-		// The lease may be there still. If it is, nobody else had the key meanwhile.
 		l.log.Warn("lease", "key", l.key, "why", err)
 		clock.Pause(ctx, afterFailure)
 	}
 }
 
+// step does what is to be done, and gives back at once what is to be given back by what came of that.
 func (l *Lease) step(ctx context.Context) error {
-	id := l.held()
-	if id == 0 {
-		return l.acquire(ctx)
+	err := l.do(ctx, l.next())
+	if step := l.next(); step.Kind == lease.Revoke {
+		l.revoke(step.ID)
 	}
-	asked := clock.Now()
-	isOurs, err := l.renew(ctx, id)
-	switch {
-	case err != nil:
-		return err
-	case !isOurs:
-		l.giveUp()
-		return errors.New("it was lost")
-	}
-	l.set(id, asked+Relied)
-	clock.Pause(ctx, renewAfter)
-	return nil
+	return err
 }
 
-// renew is whether the lease is still there, and its key.
-func (l *Lease) renew(ctx context.Context, id clientv3.LeaseID) (isOurs bool, err error) {
-	err = l.engine.call(ctx, leaseCall, func(ctx context.Context, client *clientv3.Client) error {
+func (l *Lease) do(ctx context.Context, step lease.Step) (err error) {
+	switch step.Kind {
+	case lease.Find:
+		err = l.find(ctx)
+	case lease.Create:
+		err = l.create(ctx)
+	case lease.Renew:
+		err = l.renew(ctx, step.ID)
+	case lease.Begin:
+		return l.begin(ctx, step.Term)
+	case lease.Await:
+		err = l.awaitEnd(ctx, l.revision+1)
+		l.note(func(state *lease.Key) { state.Waited() })
+		return err
+	case lease.Rest:
+		clock.Pause(ctx, renewAfter)
+		l.note(func(state *lease.Key) { state.Waited() })
+	}
+	return err
+}
+
+// failed notes that a call has no answer, and returns why.
+func (l *Lease) failed(err error) error {
+	l.note(func(state *lease.Key) { state.Failed() })
+	return err
+}
+
+// renew renews the lease, and looks whether its key is still there.
+func (l *Lease) renew(ctx context.Context, id lease.ID) error {
+	isKept, found := false, lease.Found{}
+	err := l.engine.call(ctx, leaseCall, func(ctx context.Context, client *clientv3.Client) error {
 		stream, err := pb.NewLeaseClient(client.ActiveConnection()).LeaseKeepAlive(ctx)
 		if err != nil {
 			return err
@@ -170,58 +181,56 @@ func (l *Lease) renew(ctx context.Context, id clientv3.LeaseID) (isOurs bool, er
 		if err != nil || kept.TTL <= 0 {
 			return err
 		}
-		found, err := client.Get(ctx, l.key)
-		isOurs = err == nil && len(found.Kvs) == 1 && string(found.Kvs[0].Value) == l.value && found.Kvs[0].Lease == int64(id)
+		answer, err := client.Get(ctx, l.key)
+		if err == nil {
+			isKept, found = true, foundIn(answer)
+		}
 		return err
 	})
-	return isOurs, err
+	if err != nil {
+		return l.failed(err)
+	}
+	l.note(func(state *lease.Key) { err = state.Renewed(isKept, found) })
+	return err
 }
 
-func (l *Lease) acquire(ctx context.Context) error {
-	asked := clock.Now()
-	found, excludes, err := l.find(ctx)
-	switch {
-	case err != nil:
-		return err
-	case excludes != "":
-		clock.Pause(ctx, lookAfter)
-		return fmt.Errorf("there is the key %s: a name is that of one site or of a fleet", excludes)
-	case len(found.Kvs) == 0:
-		return l.create(ctx)
-	case found.Kvs[0].Lease == 0:
-		return fmt.Errorf("the key %s has no lease, so it was put by hand: take it away", l.key)
-	case string(found.Kvs[0].Value) != l.value:
-		return l.awaitEnd(ctx, found.Header.Revision+1)
+// foundIn is what an answer has of the key.
+func foundIn(answer *clientv3.GetResponse) lease.Found {
+	if len(answer.Kvs) == 0 {
+		return lease.Found{}
 	}
-	id := clientv3.LeaseID(found.Kvs[0].Lease)
-	if id == l.given {
-		return l.awaitEnd(ctx, found.Header.Revision+1)
-	}
-	// An earlier call created it, whose answer was lost.
-	if isOurs, err := l.renew(ctx, id); err != nil || !isOurs {
-		return err
-	}
-	return l.take(ctx, id, asked)
+	return lease.Found{IsThere: true, Value: string(answer.Kvs[0].Value), ID: lease.ID(answer.Kvs[0].Lease)}
 }
 
 // find looks for the key, and where it is not there for one that excludes it.
-func (l *Lease) find(ctx context.Context) (found *clientv3.GetResponse, excludes string, err error) {
-	err = l.engine.call(ctx, leaseCall, func(ctx context.Context, client *clientv3.Client) (err error) {
-		found, err = client.Get(ctx, l.key)
-		if err != nil || len(found.Kvs) > 0 || l.from == "" {
+func (l *Lease) find(ctx context.Context) error {
+	var found lease.Found
+	err := l.engine.call(ctx, leaseCall, func(ctx context.Context, client *clientv3.Client) error {
+		answer, err := client.Get(ctx, l.key)
+		if err != nil {
 			return err
+		}
+		found, l.revision = foundIn(answer), answer.Header.Revision
+		if found.IsThere || l.from == "" {
+			return nil
 		}
 		others, err := client.Get(ctx, l.from, clientv3.WithRange(l.to), clientv3.WithKeysOnly(), clientv3.WithLimit(1))
 		if err == nil && len(others.Kvs) > 0 && string(others.Kvs[0].Key) != l.key {
-			excludes = string(others.Kvs[0].Key)
+			found.Excludes = string(others.Kvs[0].Key)
 		}
 		return err
 	})
-	return found, excludes, err
+	if err != nil {
+		return l.failed(err)
+	}
+	if found.Excludes != "" {
+		clock.Pause(ctx, lookAfter)
+	}
+	l.note(func(state *lease.Key) { err = state.Found(found) })
+	return err
 }
 
 func (l *Lease) create(ctx context.Context) error {
-	asked := clock.Now()
 	isFree := []clientv3.Cmp{clientv3.Compare(clientv3.CreateRevision(l.key), "=", 0)}
 	if l.from != "" {
 		isFree = append(isFree, clientv3.Compare(clientv3.CreateRevision(l.from), "=", 0).WithRange(l.to))
@@ -239,29 +248,19 @@ func (l *Lease) create(ctx context.Context) error {
 		return err
 	})
 	if err != nil {
-		return err
+		return l.failed(err)
 	}
-	if !isOurs {
-		l.revoke(id)
-		return nil
-	}
-	return l.take(ctx, id, asked)
+	l.note(func(state *lease.Key) { state.Created(lease.ID(id), isOurs) })
+	return nil
 }
 
-// take relies on the lease, once whenHeld has done its work.
-func (l *Lease) take(ctx context.Context, id clientv3.LeaseID, asked time.Duration) error {
-	l.lock.Lock()
-	l.term++
-	term := l.term
-	l.lock.Unlock()
+// begin has whenHeld do its work, before the lease is relied on.
+func (l *Lease) begin(ctx context.Context, term Term) (err error) {
 	if l.whenHeld != nil {
-		if err := l.whenHeld(ctx, term); err != nil {
-			l.revoke(id)
-			return err
-		}
+		err = l.whenHeld(ctx, term)
 	}
-	l.set(id, asked+Relied)
-	return nil
+	l.note(func(state *lease.Key) { state.Begun(err == nil) })
+	return err
 }
 
 // awaitEnd waits until something becomes of the key, or a short time.
@@ -282,20 +281,19 @@ func (l *Lease) awaitEnd(ctx context.Context, revision int64) error {
 
 // giveUp lets another process have the key at once.
 func (l *Lease) giveUp() {
-	id := l.held()
-	l.set(0, 0)
-	if id != 0 {
-		l.revoke(id)
+	l.note(func(state *lease.Key) { state.GiveUp() })
+	if step := l.next(); step.Kind == lease.Revoke {
+		l.revoke(step.ID)
 	}
 }
 
 // revoke gives a lease back, by any member. Where none answers, the engine may be told of it later, or ends the lease in its time.
-func (l *Lease) revoke(id clientv3.LeaseID) {
-	l.given = id
+func (l *Lease) revoke(id lease.ID) {
+	defer l.note(func(state *lease.Key) { state.Revoked() })
 	for range l.engine.config.Members {
 		// The context of Run has ended where the process ends, and the lease is given back all the same.
 		err := l.engine.call(context.Background(), leaseCall, func(ctx context.Context, client *clientv3.Client) error {
-			_, err := client.Revoke(ctx, id)
+			_, err := client.Revoke(ctx, clientv3.LeaseID(id))
 			return err
 		})
 		if !IsAway(err) {

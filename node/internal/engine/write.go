@@ -1,12 +1,10 @@
 package engine
 
 import (
-	"bytes"
 	"context"
-	"fmt"
 
 	"go.etcd.io/etcd/clientv3"
-	pb "go.etcd.io/etcd/etcdserver/etcdserverpb"
+	"go.etcd.io/etcd/mvcc/mvccpb"
 )
 
 // A Write is an entry that is to be created.
@@ -26,19 +24,9 @@ type Write struct {
 // ServedError or a MissingError. After an AwayError that is not known, and Write may be called again.
 func (e *Engine) Write(ctx context.Context, write *Write) error {
 	key := entryKey(write.Number)
-	compares := []clientv3.Cmp{clientv3.Compare(clientv3.CreateRevision(key), "=", 0)}
-	if write.Number > 1 {
-		compares = append(compares, clientv3.Compare(clientv3.CreateRevision(entryKey(write.Number-1)), ">", 0))
-	} else {
-		compares = append(compares, clientv3.Compare(clientv3.CreateRevision(epochKey), "=", 0))
-	}
-	if write.Last > 0 {
-		// The entry before may be there, though all of the epoch of this one were removed.
-		compares = append(compares, clientv3.Compare(clientv3.Value(epochKey), "=", epochValue(write.Last, write.Since)))
-	}
-	for _, fleet := range write.Absent {
-		from, to := keysOf(fleet)
-		compares = append(compares, clientv3.Compare(clientv3.CreateRevision(from), "=", 0).WithRange(to))
+	compares := []clientv3.Cmp{}
+	for _, compare := range write.Compares() {
+		compares = append(compares, compare.cmp())
 	}
 	puts := []clientv3.Op{clientv3.OpPut(key, string(write.Text))}
 	if write.First > 0 {
@@ -53,32 +41,19 @@ func (e *Engine) Write(ctx context.Context, write *Write) error {
 	if err != nil || done.Succeeded {
 		return err
 	}
-	return write.refusal(done.Responses)
+	entry, epoch, before := kvsOf(done, 0), kvsOf(done, 1), kvsOf(done, 2)
+	return write.Refusal(valueIn(entry), valueIn(epoch), len(before) > 0)
 }
 
-// refusal is why nothing was written, by what is there instead.
-func (w *Write) refusal(found []*pb.ResponseOp) error {
-	entry, epoch, before := found[0].GetResponseRange().Kvs, found[1].GetResponseRange().Kvs, found[2].GetResponseRange().Kvs
-	if len(entry) > 0 {
-		if bytes.Equal(entry[0].Value, w.Text) {
-			return nil
-		}
-		return &TakenError{fmt.Sprintf("another primary wrote the entry %d", w.Number)}
+// kvsOf is what one of the looks of a transaction found.
+func kvsOf(done *clientv3.TxnResponse, look int) []*mvccpb.KeyValue {
+	return done.Responses[look].GetResponseRange().Kvs
+}
+
+// valueIn is the value of a key that was found, or nil where none was.
+func valueIn(found []*mvccpb.KeyValue) []byte {
+	if len(found) == 0 {
+		return nil
 	}
-	if len(epoch) > 0 {
-		_, first, err := epochOf(epoch[0].Value)
-		if err != nil {
-			return err
-		}
-		if first > w.Number || w.Last > 0 && first != w.Since {
-			return &TakenError{fmt.Sprintf("another primary went over to a later epoch, with the entry %d", first)}
-		}
-	}
-	if w.Number > 1 && len(before) == 0 {
-		return &MissingError{w.Number - 1}
-	}
-	if len(w.Absent) > 0 {
-		return &ServedError{w.Absent}
-	}
-	return &TakenError{"the script is not empty any more"}
+	return append([]byte{}, found[0].Value...)
 }

@@ -122,12 +122,7 @@ func (p *Primary) Tell(_ context.Context, place epoch.Place) error {
 		if core == nil {
 			return epoch.ErrBehind
 		}
-		if place.Epoch == core.Epoch() {
-			if err := p.digests.check(&place); err != nil {
-				return err
-			}
-		}
-		return core.Tell(place, clock.Now())
+		return p.digests.Tell(core, place, clock.Now())
 	})
 	p.calls.awaken()
 	return err

@@ -2,11 +2,11 @@ package primary
 
 import (
 	"context"
-	"time"
 
 	"ordup.dev/node/internal/clock"
 	"ordup.dev/node/internal/engine"
 	"ordup.dev/node/internal/epoch"
+	"ordup.dev/node/internal/writer"
 )
 
 // A KeyCount says how many keys in the engine a site has that is taken out, and how many of them have no lease.
@@ -18,12 +18,12 @@ type leaving struct {
 	// Gone has the sites that were found without a key, and "" after each look.
 	gone    chan string
 	isUnder bool
-	// Since when keys without a lease are there as they are. It is of the look that is under way.
-	since map[engine.Key]time.Duration
+	// The keys without a lease. They are of the look that is under way.
+	unleased writer.Unleased[engine.Key]
 }
 
 func newLeaving(primary *Primary) *leaving {
-	return &leaving{Primary: primary, gone: make(chan string, 32), since: map[engine.Key]time.Duration{}}
+	return &leaving{Primary: primary, gone: make(chan string, 32)}
 }
 
 // start begins a look, if there is a site to look for and none is under way.
@@ -39,15 +39,14 @@ func (l *leaving) start(ctx context.Context) {
 // look tells which sites have no key in the engine any more.
 func (l *leaving) look(ctx context.Context, sites []string) {
 	defer func() { l.gone <- "" }()
-	before := l.since
-	l.since = map[engine.Key]time.Duration{}
+	l.unleased.Look()
 	for _, site := range sites {
 		keys, err := l.config.Engine.SiteKeys(ctx, site)
 		if err != nil {
 			l.config.Log.Warn("leaving-site-not-seen", "site", site, "why", err)
 			continue
 		}
-		l.clear(ctx, site, keys, before)
+		l.clear(ctx, site, keys)
 		if len(keys) == 0 {
 			l.gone <- site
 		}
@@ -56,19 +55,14 @@ func (l *leaving) look(ctx context.Context, sites []string) {
 }
 
 // clear tells operators what holds a site, and takes away what has had no lease for so long that nobody relies on one any more.
-func (l *leaving) clear(ctx context.Context, site string, keys []engine.Key, before map[engine.Key]time.Duration) {
+func (l *leaving) clear(ctx context.Context, site string, keys []engine.Key) {
 	now, count := clock.Now(), KeyCount{Keys: len(keys)}
 	for _, key := range keys {
 		if key.IsLeased {
 			continue
 		}
 		count.WithoutLease++
-		since, isKnown := before[key]
-		if !isKnown {
-			since = now
-		}
-		l.since[key] = since
-		if now-since < engine.LeaseTime {
+		if !l.unleased.See(key, now) {
 			continue
 		}
 		switch removed, err := l.config.Engine.RemoveKey(ctx, key); {

@@ -6,7 +6,6 @@ package primary
 
 import (
 	"context"
-	"errors"
 	"fmt"
 	"os"
 	"strings"
@@ -23,6 +22,7 @@ import (
 	"ordup.dev/node/internal/logs"
 	"ordup.dev/node/internal/script"
 	"ordup.dev/node/internal/store"
+	"ordup.dev/node/internal/writer"
 )
 
 const (
@@ -32,8 +32,6 @@ const (
 	endTime = 2 * time.Second
 	// lookAfter is after how long it is looked again whether a site that is taken out has a lease.
 	lookAfter = 500 * time.Millisecond
-	// retryAfter is after how long requests are tried again that the batch had no room for, or the end of an epoch.
-	retryAfter = 50 * time.Millisecond
 )
 
 // UsualEvery, UsualRemembers and UsualSeconds begin a script where the settings have none.
@@ -75,7 +73,7 @@ type Primary struct {
 	// When the last entry of the core came that is in the script.
 	markAt time.Duration
 	// The digests of what the core has run or sealed.
-	digests digests
+	digests writer.Digests
 	rounds  rounds
 	// How many keys the sites have that are taken out, by the last look of this process.
 	leaveKeys map[string]KeyCount
@@ -149,12 +147,10 @@ func (p *Primary) Run(ctx context.Context) error {
 
 // heed is whether an error ends the process. After most it goes on, some with a core that runs the script anew.
 func (p *Primary) heed(ctx context.Context, err error) error {
-	var taken *engine.TakenError
-	var served *engine.ServedError
 	switch {
 	case err == nil || ctx.Err() != nil:
 		return nil
-	case errors.As(err, &taken) || errors.As(err, &served):
+	case writer.RunsAgain(err):
 		p.config.Log.Info("runs-again", "why", err)
 		p.forget()
 		return nil
@@ -170,7 +166,7 @@ func (p *Primary) forget() {
 		p.core.Close()
 		p.core = nil
 	}
-	p.follower.Mark, p.digests = engine.Mark{}, digests{}
+	p.follower.Mark, p.digests = engine.Mark{}, writer.Digests{}
 }
 
 // with has the core worked on, by one goroutine at a time.

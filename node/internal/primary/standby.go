@@ -98,7 +98,7 @@ func (p *Primary) replay(entries []engine.Raw) error {
 				return err
 			}
 			p.markAt = clock.Now()
-			p.digests.add(&p.follower.Mark, entry.Begins())
+			p.digests.Add(&p.follower.Mark, entry.Begins())
 			if address := addressOf(entry.Writer); address != p.calls.writer() {
 				p.calls.set(false, address)
 			}
@@ -182,7 +182,7 @@ func (p *Primary) takeOver(ctx context.Context) error {
 		p.config.Log.Info("took-over", "entry", batch.Number, "writer", p.own)
 		p.follower.Mark.Set(batch.Number, batch.Text)
 		return p.with(func(core *epoch.Core) error {
-			p.digests.add(&p.follower.Mark, batch.First > 0)
+			p.digests.Add(&p.follower.Mark, batch.First > 0)
 			return core.Replay(batch.Number, batch.Entry())
 		})
 	}

@@ -8,17 +8,15 @@ import (
 	"ordup.dev/node/internal/clock"
 	"ordup.dev/node/internal/engine"
 	"ordup.dev/node/internal/epoch"
+	"ordup.dev/node/internal/writer"
 )
 
 // A writing is what one time as the writer needs: from a take-over to its end.
 type writing struct {
 	*Primary
-	// What is on its way to the engine, its mark, and what became of it.
-	flying *epoch.Batch
-	sealed engine.Mark
-	landed chan error
-	// Until when no requests are taken, since the batch had no room for one, or the epoch ends.
-	retry   time.Duration
+	// What is on its way to the engine, and what became of it.
+	writer  writer.Writer
+	landed  chan error
 	leaving *leaving
 	again   time.Duration
 }
@@ -41,7 +39,7 @@ func (p *Primary) writeAll(ctx context.Context) error {
 
 // isIdle is whether all that was run is written.
 func (w *writing) isIdle() (isIdle bool) {
-	w.see(func(core *epoch.Core) { isIdle = w.flying == nil && core.IsIdle() })
+	w.see(func(core *epoch.Core) { isIdle = w.writer.IsIdle(core) })
 	return isIdle
 }
 
@@ -55,7 +53,7 @@ func (w *writing) run(ctx context.Context) error {
 		if err := w.work(sending, isHeld, ended > 0); err != nil {
 			return err
 		}
-		if (ended > 0 || !isHeld) && (w.flying == nil || ended > 0 && clock.Now() > ended) {
+		if w.writer.IsOver(isHeld, ended > 0, clock.Now() > ended) {
 			return nil
 		}
 		timer := time.NewTimer(w.wait(ended > 0))
@@ -98,7 +96,7 @@ func (w *writing) wait(ends bool) time.Duration {
 	for _, other := range []struct {
 		isDue bool
 		after time.Duration
-	}{{w.again > 0, w.again}, {w.retry > 0, retryAfter}, {ends, retryAfter}} {
+	}{{w.again > 0, w.again}, {w.writer.Waits(), writer.RetryAfter}, {ends, writer.RetryAfter}} {
 		if other.isDue && other.after < wait {
 			wait = other.after
 		}
@@ -111,8 +109,8 @@ func (w *writing) take() error {
 	calls, now := &w.calls, clock.Now()
 	var came []*call
 	calls.lock.Lock()
-	if now >= w.retry {
-		came, w.retry = calls.takeLocked(), 0
+	if w.writer.Takes(now) {
+		came = calls.takeLocked()
 	}
 	nexts := calls.nexts
 	calls.nexts = nil
@@ -152,27 +150,19 @@ func (w *writing) ask(core *epoch.Core, came []*call, now time.Duration) error {
 	later := w.calls.sort(came, replies)
 	w.counts.requests.Add(int64(len(came) - later))
 	if later > 0 {
-		w.retry = now + retryAfter
+		w.writer.Postpone(now)
 	}
 	return nil
 }
 
 // seal sends the open batch, where none is on its way.
 func (w *writing) seal(ctx context.Context) error {
-	if w.flying != nil {
-		return nil
-	}
+	var batch *epoch.Batch
 	err := w.with(func(core *epoch.Core) (err error) {
-		w.flying, err = core.Seal(clock.Now())
-		if batch := w.flying; err == nil && batch != nil {
-			// A site may know the entry before this process knows that it is written.
-			w.sealed.Set(batch.Number, batch.Text)
-			w.digests.add(&w.sealed, batch.First > 0)
-		}
+		batch, err = w.writer.Seal(core, &w.digests, clock.Now())
 		return err
 	})
-	if batch := w.flying; err == nil && batch != nil {
-		w.retry = 0 // The next batch has room.
+	if err == nil && batch != nil {
 		go func() { w.landed <- w.send(ctx, batch) }()
 	}
 	return err
@@ -180,8 +170,7 @@ func (w *writing) seal(ctx context.Context) error {
 
 // send writes a batch, and tries again until it is known what became of it.
 func (p *Primary) send(ctx context.Context, batch *epoch.Batch) error {
-	write := &engine.Write{Number: batch.Number, Text: batch.Text, Absent: batch.Absent, Epoch: batch.Epoch, First: batch.First,
-		Last: batch.Last, Since: batch.Since}
+	write := writer.WriteOf(batch)
 	for {
 		err := p.config.Engine.Write(ctx, write)
 		if err == nil {
@@ -205,18 +194,16 @@ func (p *Primary) send(ctx context.Context, batch *epoch.Batch) error {
 
 // land tells the answers of a batch that is written.
 func (w *writing) land(err error) error {
-	batch := w.flying
 	if err != nil {
 		return err
 	}
-	w.flying = nil
-	w.follower.Mark = w.sealed
-	w.counts.entries.Add(1)
-	w.counts.bytes.Add(int64(len(batch.Text)))
+	var batch *epoch.Batch
 	w.see(func(core *epoch.Core) {
-		core.Written(batch.Number)
+		batch, w.follower.Mark = w.writer.Land(core)
 		w.markAt = clock.Now()
 	})
+	w.counts.entries.Add(1)
+	w.counts.bytes.Add(int64(len(batch.Text)))
 	if batch.First > 0 {
 		w.noteEpoch()
 		w.config.Log.Info("epoch", "epoch", batch.Epoch, "entry", batch.Number)

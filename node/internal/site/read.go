@@ -7,7 +7,6 @@ import (
 	"time"
 
 	"ordup.dev/node/internal/clock"
-	"ordup.dev/node/internal/engine"
 )
 
 // ErrNotServing says that this process serves no reader: it has no lease, has not reached the end that the script had when it got it, or
@@ -31,34 +30,21 @@ type Reading struct {
 	Lease time.Duration
 }
 
-// A moment is what the site had to show under its lease when it was looked at, or nothing.
-type moment struct {
-	shown *Shown
-	// Term is that of the lease, and isTaken whether a place of the site was taken in it.
-	term    engine.Term
-	isTaken bool
-	// Changed is closed when the moment may have passed.
-	changed <-chan struct{}
+// now is what may be told, and what is closed when that may have passed.
+func (s *Site) now() (now Moment, changed <-chan struct{}) {
+	now = Look(func() View {
+		s.lock.Lock()
+		defer s.lock.Unlock()
+		changed = s.changed
+		return s.view
+	}, s.lease.Lives)
+	return now, changed
 }
 
-// now is what may be told. The lease is looked at after the values, so it lived when they were the last ones.
-func (s *Site) now() moment {
-	s.lock.Lock()
-	shown, changed, first, term, taken := s.shown, s.changed, s.first, s.term, s.taken
-	s.lock.Unlock()
-	if shown == nil || shown.Entry < first || !s.lease.Lives(term) {
-		shown = nil
-	}
-	return moment{shown, term, taken == term, changed}
-}
-
-// served is what readers are served, or nil: what may be told, once a place was taken in this term.
+// served is what readers are served, or nil.
 func (s *Site) served() *Shown {
-	now := s.now()
-	if !now.isTaken {
-		return nil
-	}
-	return now.shown
+	now, _ := s.now()
+	return now.Served()
 }
 
 // Read gives the values that the site shows, which are no less than what the reader has seen. For that it waits, until the context ends:
@@ -84,7 +70,7 @@ func (s *Site) Read(ctx context.Context, seen Seen) (Reading, error) {
 func (s *Site) await(ctx context.Context, seen Seen) {
 	came := make(chan struct{})
 	s.lock.Lock()
-	if s.shown == nil || s.shown.covers(seen) {
+	if shown := s.view.shown; shown == nil || shown.covers(seen) {
 		close(came)
 	} else {
 		s.waiting[came] = seen
@@ -137,7 +123,7 @@ type Status struct {
 func (s *Site) Status() Status {
 	status := Status{Serves: s.served() != nil, Readers: s.readers.Load(), EngineFailures: s.config.Engine.Failures()}
 	s.lock.Lock()
-	if shown := s.shown; shown != nil {
+	if shown := s.view.shown; shown != nil {
 		status.Since, status.HasSeen = clock.Now()-s.shownAt, true
 		status.Entry, status.Epoch, status.Place, status.Told = shown.Entry, shown.Epoch, shown.Place, shown.Told
 	}

@@ -14,6 +14,7 @@ import (
 	"ordup.dev/node/internal/epoch"
 	"ordup.dev/node/internal/exit"
 	"ordup.dev/node/internal/follower"
+	"ordup.dev/node/internal/lease"
 	"ordup.dev/node/internal/logs"
 	"ordup.dev/node/internal/script"
 	"ordup.dev/node/internal/store"
@@ -62,15 +63,11 @@ type Site struct {
 	// What stands below lock up to the blank line is under it.
 	lock sync.Mutex
 	// What is shown, and since when. Changed is closed with each change.
-	shown   *Shown
+	view    View
 	shownAt time.Duration
 	changed chan struct{}
 	// The readers that wait, with what they have seen.
 	waiting map[chan struct{}]Seen
-	// From which entry on it may be told in which term of the lease, and the last term in which a place was taken: from then on it is served.
-	first int64
-	term  engine.Term
-	taken engine.Term
 
 	// Of the goroutine of Run alone: what was run, and the last entry that there was when the process first asked. From there on it wants
 	// the lease.
@@ -97,12 +94,12 @@ func New(config Config) (*Site, error) {
 	return site, nil
 }
 
-// mayServe says from which entry on places are told and readers served. The process before has told no place after this one.
-func (s *Site) mayServe(ctx context.Context, term engine.Term) error {
+// mayServe begins a term with what is the end of the script by then.
+func (s *Site) mayServe(ctx context.Context, term lease.Term) error {
 	s.lock.Lock()
 	next := int64(1)
-	if s.shown != nil {
-		next = s.shown.Entry + 1
+	if shown := s.view.shown; shown != nil {
+		next = shown.Entry + 1
 	}
 	s.lock.Unlock()
 	last, err := s.config.Engine.Last(ctx, next)
@@ -111,7 +108,7 @@ func (s *Site) mayServe(ctx context.Context, term engine.Term) error {
 	}
 	s.lock.Lock()
 	defer s.lock.Unlock()
-	s.first, s.term = last, term
+	s.view.Begin(term, last)
 	return nil
 }
 
@@ -220,7 +217,8 @@ func (s *Site) start(ctx context.Context) error {
 func (s *Site) show(shown *Shown) {
 	s.lock.Lock()
 	defer s.lock.Unlock()
-	s.shown, s.shownAt = shown, clock.Now()
+	s.view.Show(shown)
+	s.shownAt = clock.Now()
 	close(s.changed)
 	s.changed = make(chan struct{})
 	for came, seen := range s.waiting {
@@ -236,25 +234,25 @@ func (s *Site) tellAll(ctx context.Context) error {
 	var told epoch.Place
 	for ctx.Err() == nil {
 		relies := s.lease.Changed()
-		now := s.now()
-		isDue, again := s.isDue(now.shown, &told)
-		if !isDue && (now.shown == nil || now.isTaken) {
+		now, changed := s.now()
+		isDue, again := isDue(now.Shown, &told, clock.Now()-time.Duration(s.toldAt.Load()))
+		if !isDue && (now.Shown == nil || now.IsTaken) {
 			timer := time.NewTimer(again)
 			select {
 			case <-ctx.Done():
-			case <-now.changed:
+			case <-changed:
 			case <-relies:
 			case <-timer.C:
 			}
 			timer.Stop()
 			continue
 		}
-		place := s.placeOf(now.shown)
+		place := PlaceOf(s.inName, s.config.Name, now.Shown)
 		switch err := s.tell(ctx, place); {
 		case err == nil:
 			told = place
-			s.wasTaken(now.term)
-		case isRefused(err):
+			s.wasTaken(now.Term)
+		case IsRefused(err):
 			return err
 		case ctx.Err() == nil:
 			s.config.Log.Warn("place-not-told", "why", err)
@@ -264,39 +262,18 @@ func (s *Site) tellAll(ctx context.Context) error {
 	return nil
 }
 
-func (s *Site) placeOf(shown *Shown) epoch.Place {
-	return epoch.Place{Site: s.inName, Member: s.config.Name, Epoch: shown.Epoch, Applied: shown.Place, Entry: shown.Entry,
-		Digest: shown.Digest}
-}
-
-// isRefused is whether an error says of a place that nobody ever takes it.
-func isRefused(err error) bool {
+// IsRefused is whether an error says of a place that nobody ever takes it. It ends the process that told the place.
+func IsRefused(err error) bool {
 	var cannotBe *epoch.CannotBeError
 	return errors.As(err, &cannotBe) || errors.Is(err, epoch.ErrOtherScript) || errors.Is(err, epoch.ErrNoSite)
 }
 
 // wasTaken notes that a place was taken which was told in a term.
-func (s *Site) wasTaken(term engine.Term) {
+func (s *Site) wasTaken(term lease.Term) {
 	s.toldAt.Store(int64(clock.Now()))
 	s.lock.Lock()
 	defer s.lock.Unlock()
-	s.taken = term
-}
-
-// isDue is whether what is shown is to be told now, after what was told last, and else after how long it may be.
-func (s *Site) isDue(shown *Shown, told *epoch.Place) (isDue bool, again time.Duration) {
-	if shown == nil {
-		return false, tellAgain
-	}
-	since := clock.Now() - time.Duration(s.toldAt.Load())
-	isNew := shown.Epoch > told.Epoch || shown.Epoch == told.Epoch && shown.Place > told.Applied
-	switch {
-	case isNew && shown.isFar():
-		return since >= tellPace, tellPace - since
-	case shown.Told < shown.Place:
-		return isNew || since >= tellAgain, tellAgain - since
-	}
-	return isNew || since >= tellStill, tellStill - since
+	s.view.Take(term)
 }
 
 func (s *Site) tell(ctx context.Context, place epoch.Place) error {

@@ -9,7 +9,6 @@ import (
 	"testing"
 	"time"
 
-	"ordup.dev/node/internal/clock"
 	"ordup.dev/node/internal/engine"
 	"ordup.dev/node/internal/epoch"
 	"ordup.dev/node/internal/etcdtest"
@@ -38,7 +37,8 @@ func TestFromWhereOnASiteServes(t *testing.T) {
 	is(t, nil, err)
 	serves := func(entry int64) bool {
 		site.show(&Shown{Entry: entry, Epoch: 1})
-		site.wasTaken(site.now().term)
+		now, _ := site.now()
+		site.wasTaken(now.Term)
 		_, err := site.Read(ctx, Seen{})
 		is(t, true, err == nil || err == ErrNotServing)
 		return err == nil
@@ -113,7 +113,6 @@ func TestASiteTellsNothingWithoutTheLease(t *testing.T) {
 
 // A place is told at once where somebody may wait for it, and else so often at most.
 func TestWhenAPlaceIsTold(t *testing.T) {
-	site := &Site{}
 	for _, row := range []struct {
 		limits      []string
 		place, told int64
@@ -138,14 +137,13 @@ func TestWhenAPlaceIsTold(t *testing.T) {
 			if row.isNew {
 				told.Applied--
 			}
-			site.toldAt.Store(int64(clock.Now() - row.since))
-			isDue, again := site.isDue(shown, told)
-			if isDue != row.isDue || !isDue && (again > row.again-row.since || again < row.again-row.since-time.Second/50) {
+			isDue, again := isDue(shown, told, row.since)
+			if isDue != row.isDue || !isDue && again != row.again-row.since {
 				t.Errorf("%v: %v, %v", row, isDue, again)
 			}
 		})
 	}
-	isDue, again := site.isDue(nil, &epoch.Place{})
+	isDue, again := isDue(nil, &epoch.Place{}, 0)
 	is(t, []any{false, tellAgain}, []any{isDue, again})
 }
 

@@ -1,4 +1,4 @@
-package primary
+package writer
 
 import (
 	"testing"
@@ -10,10 +10,10 @@ import (
 // A place is of this script where it names an entry of the epoch as it is here.
 func TestAPlaceNamesAnEntryOfThisScript(t *testing.T) {
 	t.Parallel()
-	digests, mark := digests{}, engine.Mark{}
+	digests, mark := Digests{}, engine.Mark{}
 	add := func(number int64, text string, begins bool) string {
 		mark.Set(number, []byte(text))
-		digests.add(&mark, begins)
+		digests.Add(&mark, begins)
 		return mark.Digest().String()
 	}
 	is := func(wants error, entry int64, digest string) {

@@ -66,6 +66,9 @@ func (c *Core) Status(now time.Duration) Status {
 	return status
 }
 
+// IsWritten is whether the entry of this number, and so all before it, is known to be in the script.
+func (c *Core) IsWritten(number int64) bool { return number <= c.written }
+
 // IsIdle is whether all that was run is in the script.
 func (c *Core) IsIdle() bool {
 	return len(c.batch.steps) == 0 && len(c.decided) == 0 && c.written == c.entries

@@ -25,21 +25,24 @@ func (d *Digests) Add(mark *engine.Mark, begins bool) {
 // Tell has the core take the place of a site, if the script has the entry that the place names.
 func (d *Digests) Tell(core *epoch.Core, place epoch.Place, now time.Duration) error {
 	if place.Epoch == core.Epoch() {
-		if err := d.check(&place); err != nil {
+		if err := d.check(&place, core.IsWritten(place.Entry)); err != nil {
 			return err
 		}
 	}
 	return core.Tell(place, now)
 }
 
-// check is whether the script has the entry that a place of its epoch names.
-func (d *Digests) check(place *epoch.Place) error {
+// check is whether the script has the entry that a place of its epoch names, which is known to be written or not. Before it is written
+// another primary may be faster with an entry of its number, which a site has run then.
+func (d *Digests) check(place *epoch.Place, isWritten bool) error {
 	at := place.Entry - d.first
 	switch {
 	case at >= int64(len(d.all)):
 		return epoch.ErrBehind
-	case at < 0 || d.all[at].String() != place.Digest:
-		return epoch.ErrOtherScript
+	case at >= 0 && d.all[at].String() == place.Digest:
+		return nil
+	case at >= 0 && !isWritten:
+		return epoch.ErrBehind
 	}
-	return nil
+	return epoch.ErrOtherScript
 }

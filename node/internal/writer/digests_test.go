@@ -16,9 +16,10 @@ func TestAPlaceNamesAnEntryOfThisScript(t *testing.T) {
 		digests.Add(&mark, begins)
 		return mark.Digest().String()
 	}
+	written := int64(8)
 	is := func(wants error, entry int64, digest string) {
 		t.Helper()
-		if has := digests.check(&epoch.Place{Epoch: 1, Entry: entry, Digest: digest}); has != wants {
+		if has := digests.check(&epoch.Place{Epoch: 1, Entry: entry, Digest: digest}, entry <= written); has != wants {
 			t.Errorf("%v instead of %v", has, wants)
 		}
 	}
@@ -33,4 +34,8 @@ func TestAPlaceNamesAnEntryOfThisScript(t *testing.T) {
 	is(epoch.ErrBehind, 9, begun)
 	is(nil, 9, add(9, "next", false))
 	is(nil, 8, begun)
+	// The entry 9 is on its way, and another primary may have been faster with that.
+	is(epoch.ErrBehind, 9, begun)
+	written = 9
+	is(epoch.ErrOtherScript, 9, begun)
 }

@@ -136,7 +136,8 @@
 //	store        what is asked of a store; library has the one of libordup
 //	clock, exit, logs
 //
-// modelstore and etcdtest are for tests.
+// modelstore, etcdtest and sim are for tests. Package sim simulates a deployment, of the packages that are pure and of a site's View and
+// Replica, which are so too.
 //
 // # Statuses
 //

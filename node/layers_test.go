@@ -20,7 +20,7 @@ func TestThePackagesStandOnOneAnotherOneWay(t *testing.T) {
 		t.Fatal(err)
 	}
 	_, section, _ := strings.Cut(string(page), "## The node\n")
-	row := map[string]int{"modelstore": 1 << 10, "etcdtest": 1 << 10}
+	row := map[string]int{"modelstore": 1 << 10, "etcdtest": 1 << 10, "sim": 1 << 10}
 	for at, line := range strings.Split(section, "\n") {
 		cells := strings.Split(line, "|")
 		if len(cells) < 2 || !strings.HasPrefix(cells[1], "`") {

@@ -162,7 +162,8 @@ func (f *Fleet) take(place epoch.Place) (least epoch.Place, isThere bool, err er
 		f.places[place.Member] = place
 	}
 	least, isThere = f.places[place.Member], f.looked && len(f.unlisted) == 0
-	for _, other := range f.places {
+	for _, name := range f.names {
+		other := f.places[name]
 		isThere = isThere && other.Epoch > 0
 		if isBefore(other, least) {
 			least = other

@@ -37,10 +37,20 @@ var fateWeights = [fates]int{done: 12, doneAndSlow: 3, doneAndLost: 2, late: 3, 
 
 // start is how a run begins: with nothing, or with a deployment that works, of which a site is taken out, or which does not list one.
 func (c *chance) start() []Event {
-	calm := Event{Kind: Calms, How: byte(c.below(8)) | 4<<3}
-	alone := Event{Kind: Lists, How: 1}
-	return [...][]Event{{}, {calm}, {calm}, {calm}, {calm, {Kind: Wishes, Who: calm.How % primaries, How: 3}}, {calm, alone}, {alone, calm},
-		{calm, alone, {Kind: Finds}}}[c.below(8)]
+	calm, alone := Event{Kind: Calms, How: byte(c.below(8)) | 4<<3}, Event{Kind: Lists, How: 1}
+	switch c.below(8) {
+	case 0:
+		return nil
+	case 4:
+		return []Event{calm, {Kind: Wishes, Who: calm.How % primaries, How: 3}}
+	case 5:
+		return []Event{calm, alone}
+	case 6:
+		return []Event{alone, calm}
+	case 7:
+		return []Event{calm, alone, {Kind: Finds}}
+	}
+	return []Event{calm}
 }
 
 // Generate gives the run of a seed. Of each seed some things happen often, and others never.

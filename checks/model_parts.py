@@ -1,6 +1,6 @@
 """The parts of pages that checks/model --print writes: what a page says of the code, printed from the code.
 
-- docs/PROOFS.md: the promises, from the comments in src/ (checks/edits/promises.py).
+- docs/PROOFS.md: the promises, from the comments in src/ (checks/source/promises.py).
 - docs/ARCHITECTURE.md: each crate of the store with the first sentence of its src/lib.rt, or src/main.rt, in the order of crates.txt.
 - docs/crates.svg: these crates, each above those that it stands on. An edge that others imply is left out.
 - docs/GLOSSARY.md: by crate the words that name it, or a public type, call or definition of it.
@@ -10,121 +10,110 @@
 In a page a part stands between the lines `<!-- NAME: .. -->` and `<!-- end -->`. The picture is one part.
 """
 
+from __future__ import annotations
+
 import re
-import sys
-from pathlib import Path
+from typing import Callable, Iterator, Sequence
 
-TOP = Path(__file__).resolve().parent.parent
-sys.path.insert(0, str(TOP / "checks/edits"))
-
-import promises
+from source.findings import Finding
+from source.promises import Row
+from source.rattle import Comment, Function
+from source.tree import Tree
 
 NEED_WAITS = ("Cluster", "SiteQuery", "Epochs")
-BEGINS = "<!-- {}: checks/model --print writes this part -->"
-ENDS = "<!-- end -->"
 
 
-def read(path):
-    return path.read_text(encoding="utf-8")
-
-
-def crates():
+def crates(tree: Tree) -> dict[str, list[str]]:
     """The crates of the store in the order of crates.txt, each with those of them that it names."""
-    lines = [line.split("#")[0].partition(":") for line in read(TOP / "crates.txt").split("\n")]
-    named = {name.split()[0]: libraries.split() for name, _, libraries in lines if name.startswith("ordup_")}
+    named = {it.name: it.libraries for it in tree.crates.values() if it.is_of_store}
     return {name: [it for it in libraries if it in named] for name, libraries in named.items()}
 
 
-def promise_lines():
+def promise_lines(rows: Sequence[Row]) -> Iterator[str]:
     """The rows of the promises, crate by crate."""
-    section = None
+    section = ""
     yield from ("|promise|carried by|", "|-|-|")
-    for row in promises.Promises(TOP).rows:
+    for row in rows:
         if row.section != section:
             section = row.section
             yield f"|**`{section}`**||"
         yield f"|{row.promise[:1].upper()}{row.promise[1:]}|{row.contract}|"
 
 
-def crate_lines():
+def crate_lines(tree: Tree) -> Iterator[str]:
     yield from ("|crate|what it is|", "|-|-|")
-    for crate in crates():
-        file = next(it for it in (TOP / f"crates/{crate}/src/lib.rt", TOP / f"crates/{crate}/src/main.rt") if it.exists())
-        told = []
-        for line in read(file).split("\n"):
-            if line.strip("/! ") == "" or not line.startswith("//!"):
-                break
-            told.append(line[3:].strip())
-        sentence = re.split(r"\. |\.$", " ".join(told))[0]
+    for crate in crates(tree):
+        root = tree.root(crate)
+        told = (root.text if root else "").partition("\n\n")[0].partition("\n//!\n")[0]
+        text = " ".join(line[3:].strip() for line in told.split("\n") if line.startswith("//!"))
+        sentence = re.split(r"\. |\.$", text)[0]
         yield f"|`{crate.removeprefix('ordup_')}`|{sentence}|"
 
 
-def parts_of_name(name):
+def parts_of_name(name: str) -> str:
     """The words of a name: `MessageSet` and `message_set` are of two."""
     return " ".join(re.findall(r"[a-z]+|[A-Z][a-z]*", name)).lower()
 
 
-def declared(crate):
+def declared(tree: Tree, crate: str) -> list[set[str]]:
     """The public names that a crate declares, as their words: its own name, its types, and its calls and definitions."""
-    types, calls = [], []
-    for file in (TOP / f"crates/{crate}").glob("src/**/*.rt"):
-        types += re.findall(r"^ *pub (?:struct|enum|trait) (\w+)", read(file), re.M)
-        calls += re.findall(r"^ *pub fn (\w+)", read(file), re.M)
-    for file in (TOP / f"crates/{crate}").glob("specs/*.antt"):
-        calls += re.findall(r"^ *(?:abbrev pub|unfoldable pub|pub record|pub data) ([\w']+)", read(file), re.M)
-    return [{parts_of_name(it) for it in names} for names in ([crate.removeprefix("ordup_")], types, calls)]
+    files = tree.files(crate)
+    types = [it.name for file in files for it in file.types if it.visibility == "pub" and it.kind in ("struct", "enum", "trait")]
+    calls = [it.name for file in files for it in file.functions if it.visibility == "pub" and not it.modifiers]
+    calls += [it.name for file in tree.specs(crate) for it in file.declared if it.is_public]
+    return [set(map(parts_of_name, names)) for names in ([crate.removeprefix("ordup_")], types, calls)]
 
 
-def glossary_lines():
+def glossary_lines(tree: Tree) -> Iterator[str]:
     """By crate the words of the glossary that name it, or a public type, call or definition of it, in this order. The lowest counts."""
-    text = read(TOP / "docs/GLOSSARY.md").split("## Several machines")[0]
-    words = [it for names in re.findall(r"^- \*\*([^*]+)\*\*", text, re.M) for it in names.split(", ")]
-    names, places = {crate: declared(crate) for crate in crates()}, {}
-    for word in words:
+    text = tree.read("docs/GLOSSARY.md").split("## Several machines")[0]
+    names = {crate: declared(tree, crate) for crate in crates(tree)}
+    places: dict[str, list[str]] = {}
+    for word in [it for words in re.findall(r"^- \*\*([^*]+)\*\*", text, re.M) for it in words.split(", ")]:
         named = [crate for way in range(3) for crate in names if names[crate][way] & {word, word + "s"}]
         if named:
             places.setdefault(named[0], []).append(word)
-    return ["|crate|words|", "|-|-|", *(f"|`{crate}`|{','.join(places[crate])}|" for crate in names if crate in places)]
+    return iter(["|crate|words|", "|-|-|", *(f"|`{crate}`|{','.join(places[crate])}|" for crate in names if crate in places)])
 
 
-WAITS = re.compile(r"((?: *// (?:(?!promise).)*\n)+)(?: *(?://|#\[).*\n)* *pub (fn|struct|enum) (\w+)")
+def text_of_waits(comments: Sequence[Comment]) -> str:
+    """What comments say of waits, on lines that go on up to a promise or the doc comment."""
+    told = " ".join(it.text.strip(" /") for it in comments if not it.is_doc)
+    return told.partition("promise")[0].strip().removeprefix("waits: ") if told.startswith("waits: ") else ""
 
 
-def waits():
+def waits(tree: Tree) -> tuple[dict[str, str], list[Function]]:
     """The calls, or the types, that have a comment on waits, each with its text, and those of `NEED_WAITS` that have none."""
-    said, missing = {}, []
-    for file in [it for crate in ("ordup_cluster", "ordup_epochs") for it in sorted((TOP / f"crates/{crate}/src").glob("*.rt"))]:
-        for block in re.split(r"^(?=impl\b)", read(file), flags=re.M):
-            owner = re.match(r"impl(?:<.*?>)? (\w+)", block)
-            for comments, kind, name in WAITS.findall(block):
-                text = " ".join(it.strip(" /") for it in comments.split("\n")).strip()
-                if text.startswith("waits: "):
-                    said[f"{owner[1]}::{name}" if kind == "fn" else name] = text.removeprefix("waits: ")
-            calls = re.findall(r"^    pub fn (\w+)", block, re.M) if owner and owner[1] in NEED_WAITS else []
-            missing += [f"{owner[1]}::{it}" for it in calls if f"{owner[1]}::{it}" not in said]
-    return said, missing
+    files = [*tree.files("ordup_cluster"), *tree.files("ordup_epochs")]
+    items = [it for file in files for it in file.items() if it.visibility == "pub"]
+    said = {it.path: text_of_waits(it.comments) for it in items}
+    missing = [it for it in items if isinstance(it, Function) and it.owner in NEED_WAITS and not said[it.path]]
+    return {name: text for name, text in said.items() if text}, missing
 
 
-def wait_lines():
+def wrong_waits(tree: Tree) -> Iterator[Finding]:
+    said, missing = waits(tree)
+    for it in missing:
+        yield Finding(it.where, f"no comment says for what {it.path} waits", "`// waits: LOCK | WAIT` above it says it")
+    for name, text in said.items():
+        if "|" not in text and "|" not in said.get(text.removeprefix("as "), ""):
+            yield Finding("docs/SERVICE.md", f"{name} waits {text}, and no comment says for what that waits")
+
+
+def wait_lines(tree: Tree) -> Iterator[str]:
     """The calls by what they wait for: first those that never wait."""
-    said, missing = waits()
-    if missing:
-        sys.exit(f"no comment says for what these wait: {', '.join(missing)}")
-    rows = {}
+    said, _ = waits(tree)
+    rows: dict[str, list[str]] = {}
     for name, text in sorted(said.items(), key=lambda it: it[1].startswith("as ") and "|" not in it[1]):
-        of = text.removeprefix("as ") if "|" not in text else name
-        rows.setdefault(of, []).append(name)
-    unknown = [it for it in rows if "|" not in said.get(it, "")]
-    if unknown:
-        sys.exit(f"no comment says for what these wait, which others wait as: {', '.join(unknown)}")
+        rows.setdefault(name if "|" in text else text.removeprefix("as "), []).append(name)
     yield from ("| call | takes the lock | waits |", "|---|---|---|")
-    for of in sorted(rows, key=lambda it: "never" not in said[it]):
-        yield f"| {calls_by_type(rows[of])} | {said[of]} |"
+    for of in sorted(rows, key=lambda it: "never" not in said.get(it, "")):
+        yield f"| {calls_by_type(rows[of])} | {said.get(of, '')} |"
 
 
-def calls_by_type(names):
+def calls_by_type(names: Sequence[str]) -> str:
     """Names of calls, those of one type together, and of types."""
-    types = {}
+    types: dict[str, list[str]] = {}
     for name in names:
         owner, _, call = name.rpartition("::")
         types.setdefault(owner or name, []).extend([call] if owner else [])
@@ -132,19 +121,7 @@ def calls_by_type(names):
                      for it, calls in types.items())
 
 
-PICTURE = "docs/crates.svg"
-PARTS = {
-    "docs/PROOFS.md": {"promises": promise_lines},
-    "docs/ARCHITECTURE.md": {"crates": crate_lines},
-    "docs/GLOSSARY.md": {"places": glossary_lines},
-    "docs/SERVICE.md": {"waits": wait_lines},
-}
-
-
-def with_part(text, name, lines):
-    """The text of a page with a part in it; None where it has no place for the part."""
-    begin = BEGINS.format(name)
-    if text.count(begin + "\n") != 1 or ENDS + "\n" not in text.split(begin)[1]:
-        return None
-    above, below = text.split(begin + "\n")
-    return f"{above}{begin}\n\n" + "\n".join(lines) + f"\n\n{ENDS}\n" + below.split(ENDS + "\n", 1)[1]
+def parts(tree: Tree, rows: Sequence[Row]) -> dict[str, tuple[str, Callable[[], Iterator[str]]]]:
+    """The printed part of each page: its name, and its lines."""
+    return {"docs/PROOFS.md": ("promises", lambda: promise_lines(rows)), "docs/ARCHITECTURE.md": ("crates", lambda: crate_lines(tree)),
+            "docs/GLOSSARY.md": ("places", lambda: glossary_lines(tree)), "docs/SERVICE.md": ("waits", lambda: wait_lines(tree))}

@@ -4,6 +4,14 @@ A crate stands on a level above all that it stands on. An edge that others imply
 place of its own on each, so that it crosses no box. The order on a level is that of the middle of what is joined to it.
 """
 
+from __future__ import annotations
+
+from typing import Iterator, Mapping, Sequence, Union
+
+# A crate by its name, or the place of an edge: the crates above and below, and the level.
+Point = Union[str, "tuple[str, str, int]"]
+Crates = Mapping[str, Sequence[str]]
+
 WIDTH, HIGH, STEP, GAP, EDGE = 900, 30, 70, 18, 24
 
 STYLE = """\
@@ -20,20 +28,20 @@ TEXT = ("From the program and the library for C down: the jobs of the program; s
         "the bottom objects and rounds. The list below the picture says what each crate is for.")
 
 
-def below(crates, name):
+def below(crates: Crates, name: str) -> set[str]:
     """All crates that a crate stands on."""
     return set(crates[name]).union(*(below(crates, it) for it in crates[name]))
 
 
-def levels_of(crates):
+def levels_of(crates: Crates) -> dict[str, int]:
     """The level of each crate, from 0 at the bottom."""
-    level = {}
+    level: dict[str, int] = {}
     for name in crates:
         level[name] = max((level[it] + 1 for it in crates[name]), default=0)
     return level
 
 
-def kind(crates, name):
+def kind(crates: Crates, name: str) -> str:
     """The colour of a box: what a crate is for, by what it stands on."""
     stands = below(crates, name) | {name}
     if not any(name in it for it in crates.values()):
@@ -43,21 +51,22 @@ def kind(crates, name):
     return "thread" if "ordup_feed" in stands else "audit" if "ordup_audit" in stands else ""
 
 
-def width_of(point):
+def width_of(point: Point) -> int:
     return len(point) * 8 + 28 if isinstance(point, str) else 6
 
 
 class Drawing:
     """Points, which are crates and the places of edges on the levels between, and the lines between points of neighbouring levels."""
 
-    def __init__(self, crates):
+    def __init__(self, crates: Crates):
         self.crates = {name.removeprefix("ordup_"): [it.removeprefix("ordup_") for it in names] for name, names in crates.items()}
         self.kinds = {name.removeprefix("ordup_"): kind(crates, name) for name in crates}
         self.level = levels_of(self.crates)
-        self.rows = [[] for _ in range(max(self.level.values()) + 1)]
+        self.rows: list[list[Point]] = [[] for _ in range(max(self.level.values()) + 1)]
         for name in self.crates:
             self.rows[self.level[name]].append(name)
-        self.lines, self.paths = [], []
+        self.lines: list[tuple[Point, Point]] = []
+        self.paths: list[list[Point]] = []
         for name, names in self.crates.items():
             direct = [it for it in names if not any(it in below(self.crates, other) for other in names)]
             for goal in direct:
@@ -65,8 +74,8 @@ class Drawing:
         self.order()
         self.x = self.places()
 
-    def add_edge(self, upper, lower):
-        path = [upper]
+    def add_edge(self, upper: str, lower: str) -> None:
+        path: list[Point] = [upper]
         for level in range(self.level[upper] - 1, self.level[lower], -1):
             path.append((upper, lower, level))
             self.rows[level].append(path[-1])
@@ -74,10 +83,10 @@ class Drawing:
         self.paths.append(path)
         self.lines += list(zip(path, path[1:]))
 
-    def joined(self, point, down):
+    def joined(self, point: Point, down: bool) -> list[Point]:
         return [b if down else a for a, b in self.lines if (a if down else b) == point]
 
-    def order(self):
+    def order(self) -> None:
         """Orders each level by the middle of what its points are joined to, down and up in turn."""
         for turn in range(24):
             down = turn % 2 == 0
@@ -89,9 +98,9 @@ class Drawing:
                     middles[it] = sum(others) / len(others)
                 row.sort(key=lambda it: middles[it])
 
-    def places(self):
+    def places(self) -> dict[Point, float]:
         """The middle of each point: as near to what it is joined to as the others on its level let it be."""
-        x = {}
+        x: dict[Point, float] = {}
         for row in self.rows:
             total = sum(width_of(it) + GAP for it in row)
             left = (WIDTH - total) / 2
@@ -108,10 +117,11 @@ class Drawing:
         return x
 
 
-def apart(row, wanted):
+def apart(row: Sequence[Point], wanted: Sequence[float]) -> list[float]:
     """Places near the wanted ones, in their order, which leave room for each point and stay within the picture."""
     need = [(width_of(a) + width_of(b)) / 2 + GAP for a, b in zip(row, row[1:])]
-    least, most = [], []
+    least: list[float] = []
+    most: list[float] = []
     for index, it in enumerate(row):
         edge = EDGE + width_of(it) / 2
         least.append(max(wanted[index], least[-1] + need[index - 1]) if index else max(wanted[0], edge))
@@ -128,7 +138,7 @@ def apart(row, wanted):
     return middle
 
 
-def picture(crates):
+def picture(crates: Crates) -> Iterator[str]:
     drawing = Drawing(crates)
     high = len(drawing.rows) * STEP + 2 * EDGE - (STEP - HIGH)
     top = {level: high - EDGE - HIGH - level * STEP for level in range(len(drawing.rows))}
@@ -139,7 +149,7 @@ def picture(crates):
     yield f"  <style>\n{STYLE}\n  </style>"
     yield f'  <rect x="0.5" y="0.5" width="{WIDTH - 1}" height="{high - 1}" rx="8" class="page"/>'
     for path in drawing.paths:
-        place, drawn = top[drawing.level[path[0]]] + HIGH, [f"M{drawing.x[path[0]]:.0f} {top[drawing.level[path[0]]] + HIGH}"]
+        place, drawn = top[drawing.level[str(path[0])]] + HIGH, [f"M{drawing.x[path[0]]:.0f} {top[drawing.level[str(path[0])]] + HIGH}"]
         for point in path[1:]:
             level = drawing.level[point] if isinstance(point, str) else point[2]
             drawn.append(f"L{drawing.x[point]:.0f} {top[level]}")

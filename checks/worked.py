@@ -4,7 +4,11 @@ What stands there is text, and `LINE -> ANSWER` is a line of a script with its a
 one row. checks/tests reads the list.
 """
 
+from __future__ import annotations
+
 import re
+from pathlib import Path
+from typing import Iterator, Sequence
 
 OPENING = ("object x 0 -> ok object x", "object y 10 -> ok object y", "site a 4 -> ok site a")
 LIMITED = (*OPENING, "limit a object x 5 -> ok limit a", "start -> ok start")
@@ -29,17 +33,17 @@ OF_CLUSTERS, OF_THREADS = "crates/tests_of_clusters/src/", "crates/tests_of_thre
 WORKED_ROWS = OF_SCRIPTS + "events/worked_rows.rt"
 
 
-def printed(record):
+def printed(record: str) -> str:
     """A record as it stands below a script."""
     return "".join(f"| {row}\n" for row in record.splitlines())
 
 
-def varied(before, after, told):
+def varied(before: Sequence[str], after: Sequence[str], told: str) -> str:
     """A change of a record in tests/records, and what the check then says."""
     return "".join(f"- {row}\n" for row in before) + "".join(f"+ {row}\n" for row in after) + f"= {told}\n"
 
 
-WORKED = [
+WORKED: list[tuple[str, ...]] = [
     # ---- scripts
     ("an empty script", SCRIPTS + "lines.txt", "# An empty script"),
     ("the first run", "crates/test_fixtures/src/transcripts.rt", "a script of 64 bytes, and its 123 bytes of answers", *FIRST_RUN),
@@ -284,7 +288,7 @@ WORKED = [
 ]
 
 
-def is_there(text, pieces):
+def is_there(text: str, pieces: Sequence[str]) -> bool:
     """Whether these stand in a text, in this order."""
     at = 0
     for piece in pieces:
@@ -296,14 +300,14 @@ def is_there(text, pieces):
     return True
 
 
-def parts_of(text, name):
+def parts_of(text: str, name: str) -> list[str]:
     """The rows of a file of tests/, or the whole of another one: the functions of a test stand before it."""
     return re.split(r"\n(?=# )", text) if name.startswith("tests/") else [text]
 
 
-def lost(top):
-    """What to say of each worked row that does not stand where it should."""
+def lost(top: Path) -> Iterator[tuple[str, str]]:
+    """Each worked row that does not stand where it should: the file, and what to say."""
     for what, name, *pieces in WORKED:
         text = (top / name).read_text(encoding="utf-8") if (top / name).is_file() else ""
         if not any(is_there(f"\n{part}\n", pieces) for part in parts_of(text, name)):
-            yield f"{name}: {what}: this worked row does not stand there"
+            yield name, f"{what}: this worked row does not stand there"

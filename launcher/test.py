@@ -1,77 +1,84 @@
-"""Tests the program before its proof, as the gate does the proved one: python3 test.py TOP FOLDER
+"""Tests the program before its proof, as the gate does the proved one.
 
-It has the program before its proof in FOLDER, and gives it to those checks that the gate makes with the proved one: what a reader sees,
-the rows of tests/, stores one after the other, and streams and words from outside. Beside it the tests by calls of each crate are
-run, by `rt try --test`. Of what fails all that it said is told, and on standard error what was not tried. The last line is
-'N passed, M failed', and the status is 0 where M is 0 and N is not.
+Those checks are made of checks/table.py that are to be made before the proof, too. Beside them the tests by calls of each crate are run, by `rt try --test`. Of what fails all that it said
+is told, and on standard error what was not tried. The last line is 'N passed, M failed', and the status is 0 where M is 0 and N is not.
 """
+
+from __future__ import annotations
 
 import os
 import re
 import subprocess
 import sys
-from concurrent.futures import ThreadPoolExecutor
+from concurrent.futures import Future, ThreadPoolExecutor
 from pathlib import Path
-
-sys.path.insert(0, str(Path(__file__).parent))
-sys.dont_write_bytecode = True
+from typing import NamedTuple
 
 import unproved
+from checkout import TOP, Failure, need_kit, output_of
 
-# What the gate runs too. The rows are tried file by file.
-CHECKS = ["pages", "epochs", "outside"]
-
-
-def ran(words, folder):
-    """What a command said, and its status."""
-    done = subprocess.run(words, cwd=folder, stdin=subprocess.DEVNULL, stdout=subprocess.PIPE, stderr=subprocess.STDOUT, errors="replace")
-    return done.stdout, done.returncode
+ROWS = "checks/rows"  # These are tried file by file.
+# Where it is told how much passed, and how much failed: by `rt try --test`, and in the last line of a check.
+OF_TESTS = r"^test result: .*?(\d+) passed; (\d+) failed"
+OF_A_CHECK = r"^(\d+) (?:passed, (\d+) failed)?[^\n]*\n*\Z"
 
 
-def try_tests(crate):
-    """Runs the tests of a crate, without a proof."""
-    said, status = ran(["rt", "try", "--test"], crate)
-    found = re.search(r"^test result: .*?(\d+) passed; (\d+) failed", said, re.M)
-    return said, status, found and [int(it) for it in found.groups()]
+class Tried(NamedTuple):
+    said: str
+    status: int
+    passed: int = 0
+    failed: int = 0
 
 
-def check(top, built, words):
-    """Makes a check, once the program is built. Its last line begins with how many things it tried, or how many of them passed."""
-    if not built.result():
-        return "there is no program before its proof", 1, None
-    said, status = ran(words, top)
-    found = re.match(r"(\d+) (?:passed, (\d+) failed)?", said.rstrip("\n").split("\n")[-1])
-    return said, status, found and [int(it or 0) for it in found.groups()]
+def tried(words: list[str], folder: Path, counts: str) -> Tried:
+    """Runs a command, and finds in what it said how much passed and failed."""
+    output, status = output_of(words, cwd=folder, stderr=subprocess.STDOUT)
+    said = output.decode(errors="replace")
+    found = re.search(counts, said, re.M)
+    return Tried(said, status, *(int(it or 0) for it in (found.groups() if found else ())))
 
 
-def tell(name, said, status, counted):
+def check(built: Future[tuple[Path, bool]], words: list[str]) -> Tried:
+    """Makes a check, once the program is built."""
+    try:
+        program, _ = built.result()
+    except Failure as why:
+        return Tried(str(why), why.status)
+    return tried([f"{TOP}/{words[0]}", str(program), *words[1:]], TOP, OF_A_CHECK)
+
+
+def tell(name: str, it: Tried) -> tuple[int, int]:
     """Tells of what was tried, and answers how much passed and how much failed."""
-    for line in re.findall(r"^not tried: .*", said, re.M):
+    for line in re.findall(r"^not tried: .*", it.said, re.M):
         print(line, file=sys.stderr)
-    passed, failed = counted or (0, 0)
-    if status or failed or not passed:
-        print(f"{said.rstrip()}\n{name} failed", file=sys.stderr, flush=True)
-        failed = failed or 1
-    else:
-        print(f"{name}: {passed} passed", flush=True)
-    return passed, failed
+    if it.status or it.failed or not it.passed:
+        print(f"{it.said.rstrip()}\n{name} failed", file=sys.stderr, flush=True)
+        return it.passed, it.failed or 1
+    print(f"{name}: {it.passed} passed", flush=True)
+    return it.passed, 0
 
 
-def main(top, folder):
-    crates = sorted(it for it in Path(top, "crates").iterdir() if any("#[test]" in file.read_text() for file in it.glob("src/**/*.rt")))
+def test() -> int:
+    """Tests all, and answers the status."""
+    need_kit()
+    sys.path.append(str(TOP / "checks"))
+    from table import CHECKS  # All else that the launcher does needs no check.
+
+    crates = sorted(it for it in (TOP / "crates").iterdir() if any("#[test]" in file.read_text() for file in it.glob("src/**/*.rt")))
+    files = sorted(os.path.relpath(it, TOP) for it in (TOP / "tests").glob("**/*.txt"))
     with ThreadPoolExecutor(max(2, len(os.sched_getaffinity(0)))) as pool:
-        built = pool.submit(unproved.have, top, folder, "ordup")
-        tries = [(f"the tests of {it.name}", pool.submit(try_tests, it)) for it in crates]
-        files = sorted(os.path.relpath(it, top) for it in Path(top, "tests").glob("**/*.txt"))
-        for words in [*([it] for it in CHECKS), *(["rows", file] for file in files)]:
-            command = [f"{top}/checks/{words[0]}", f"{folder}/ordup", *words[1:]]
-            tries.append((f"checks/{' '.join(words)}", pool.submit(check, top, built, command)))
-        counted = [tell(name, *it.result()) for name, it in tries]
+        built = pool.submit(unproved.have, "ordup")
+        tries = [(f"the tests of {it.name}", pool.submit(tried, ["rt", "try", "--test"], it, OF_TESTS)) for it in crates]
+        names = [it.name for it in CHECKS if it.before_proof]
+        for words in [*([it] for it in names if it != ROWS), *([ROWS, file] for file in files)]:
+            tries.append((" ".join(words), pool.submit(check, built, words)))
+        try:
+            counted = [tell(name, it.result()) for name, it in tries]
+        except SystemExit:
+            for _, it in tries:
+                it.cancel()
+            raise
     passed, failed = (sum(it) for it in zip(*counted))
     print("Nothing of it is proved by this: the proof is rt ci.")
     print(f"{passed} passed, {failed} failed")
     return 1 if failed or not passed else 0
-
-
-if __name__ == "__main__":
-    sys.exit(main(*sys.argv[1:]))

@@ -83,6 +83,9 @@
 // place, the clients are carried over and one entry begins the next epoch: with the declarations that the library gives for the successor,
 // or those of the operator, in which an object that stays keeps its value.
 //
+// A limit changes by a step of the script, with the answer of the store, which may refuse it. A primary that stands by and fsck come to the
+// same answer. A site has not the store for that: it compares what its own store refuses, and from which update on the limit can be in force.
+//
 // A site that the operator takes out leaves first: an entry says so, and its processes end with status 4. Until it is gone it is waited
 // for like any other. It is gone by an entry that the engine takes only where it has no key of the site, by a compare of their range in
 // the same transaction. A process that gets a lease after that reads first that its site is taken out.
@@ -98,10 +101,10 @@
 // that was started with other settings than those ends with status 2, before it stands by. So it comes back with its settings after any
 // wish.
 //
-// A program has its own version of ordup, and those before it whose answers are the same. So a new one goes on with the script of an old
-// one, beside old processes. All entries of an epoch have one version: that of the epoch before, or the one that a wish names. A primary
-// takes no wish for a version that it has not. One that took over such a wish ends with status 2 where it would begin that epoch, and so
-// does who meets an entry of a version that it has not.
+// A program has a list of versions of ordup: its own, and those before it whose answers are the same. So a new one goes on with the
+// script of an old one, beside old processes. All entries of an epoch have one version: that of the epoch before, or the one that a
+// wish names. A primary takes no wish for a version that it has not. One that took over such a wish ends with status 2 where it would
+// begin that epoch, and so does who meets an entry of a version that it has not.
 //
 // # Archives
 //
@@ -109,7 +112,8 @@
 // once the file is on its disk, with its digest. The entries leave the engine when so many hosts have the same file, two by default. Until
 // then the engine keeps them. So no single disk has the script of an epoch alone, and no file travels between primaries. A host that lacks
 // the archive of an epoch that others have is given a copy by an operator. An archive is a script for `ordup run`; the lines of the
-// entries are comments in it.
+// entries are comments in it. No process deletes one, or reads one again: an operator prunes them, and from the first that is left on the
+// audit of package fsck begins.
 //
 // # The parts
 //
@@ -124,7 +128,7 @@
 //	follower     how a primary that stands by and a site follow the script
 //	fleet        the place of several sites
 //	archive      the files of past epochs
-//	fsck         checks them and the script from the first epoch on
+//	fsck         checks them and the script from the first epoch on, and prunes them
 //	wire         what travels by HTTP, with its table of errors. It knows none of the others but exit
 //	listen       a server of HTTP for whoever comes
 //	serve        the paths of a primary, a site and a fleet, and who may ask at them
@@ -134,10 +138,11 @@
 //	reload       files with certificates, keys and tokens, which may change
 //	command      the commands
 //	store        what is asked of a store; library has the one of libordup
+//	versions     the list of versions whose answers the library gives
 //	clock, exit, logs
 //
 // modelstore, etcdtest and sim are for tests. Package sim simulates a deployment, of the packages that are pure and of a site's View and
-// Replica, which are so too.
+// Replica, which are so too. The command sim/cost has them take their steps in simulated time, to see what rounds cost.
 //
 // # Statuses
 //

@@ -1,8 +1,11 @@
 """What is installed: the files below a prefix, such as /usr, with their bytes."""
 
+from __future__ import annotations
+
 import re
 import subprocess
 from pathlib import Path
+from typing import Callable
 
 import manual
 from archives import Entry
@@ -25,55 +28,55 @@ complete -F _ordup ordup
 """
 
 
-def said_by(*words):
+def said_by(*words: str | Path) -> str:
     """What a command prints, where it ends well."""
     return subprocess.run(words, stdin=subprocess.DEVNULL, stdout=subprocess.PIPE, check=True, encoding="utf-8").stdout
 
 
-def version_of(program, name="ordup"):
-    """The version that a program says: the one that its packages have."""
+def version_of(program: Path, name: str = "ordup") -> str:
+    """The version that a program says: the one that its packages have. What it was built of may stand behind it."""
     said = said_by(program, "--version")
-    found = re.fullmatch(rf"{name} ({NUMBER})\n", said)
+    found = re.fullmatch(rf"{name} ({NUMBER})(?: \(build [0-9a-f]+\))?\n", said)
     if not found:
         raise ValueError(f"{program} --version says {said!r}, and no version")
     return found[1]
 
 
-def summary_of(header):
+def summary_of(header: str) -> str:
     """What ordup is, in the words of the first line of its header."""
-    return re.match(r"/\* ordup: an? ([^,]*),", header)[1]
+    return manual.found_in(header, r"\A/\* ordup: an? ([^,]*),")[1]
 
 
-def first_paragraph(page):
+def first_paragraph(page: str) -> str:
     """What something is, in the first paragraph of its page that is no heading; its last sentence leads to another page."""
     text = (TOP / page).read_text(encoding="utf-8").split("\n\n")[1]
     return re.split(r" (?:The )?\[", text)[0]
 
 
-def glibc_of(*binaries):
+def glibc_of(*binaries: bytes) -> tuple[int, int]:
     """The newest version of the C library of which these take a function."""
-    found = [tuple(map(int, it.split(b"."))) for data in binaries for it in re.findall(rb"\0GLIBC_(\d+\.\d+)(?:\.\d+)?(?=\0)", data)]
-    if not found:
+    names = [it for data in binaries for it in re.findall(rb"\0GLIBC_(\d+)\.(\d+)(?:\.\d+)?(?=\0)", data)]
+    if not names:
         raise ValueError("nothing there names a version of the C library")
-    return max(found)
+    return max((int(major), int(minor)) for major, minor in names)
 
 
-def completion(commands):
+def completion(commands: list[str]) -> str:
     """The completion: which words may stand first, and which behind each of them."""
-    words = [it.split()[1:] for it, _ in commands]
+    words = [it.split()[1:] for it in commands]
     first = list(dict.fromkeys(it[0] for it in words))
     behind = {name: [it[1] for it in words if it[0] == name and it[1:] and it[1].startswith("-")] for name in first}
     lines = [f"    2:{name}) words='{' '.join([*options, '--help'])}' ;;" for name, options in behind.items() if not name.startswith("-")]
     return COMPLETION.replace("FIRST", " ".join(first)).replace("OTHERS", "\n".join(lines))
 
 
-def description(name, version, summary, prefix, library):
+def description(name: str, version: str, summary: str, prefix: str, library: str) -> str:
     """What pkg-config reads of the library."""
     return (f"prefix={prefix}\nlibdir={library}\nincludedir=${{prefix}}/include\n\nName: {name}\nDescription: {summary}\n"
             f"Version: {version}\nLibs: -L${{libdir}} -lordup\nLibs.private: -pthread\nCflags: -I${{includedir}}\n")
 
 
-def pages():
+def pages() -> dict[str, bytes]:
     """The pages and the examples that they name, at the places that they have in the repository."""
     found = [TOP / "README.md", TOP / "CHANGELOG.md"]
     for folder in ("docs", "examples"):
@@ -86,7 +89,7 @@ BINDINGS = ("c/series.c", "rust/Cargo.toml", "rust/build.rs", "rust/src/**/*.rs"
             "go/**/*.go", "python/examples/*.py")
 
 
-def bindings():
+def bindings() -> dict[str, bytes]:
     """The sources of the bindings, at the places that they have in the repository."""
     found = [it for pattern in BINDINGS for it in sorted(TOP.glob(f"clients/{pattern}"))]
     return {str(it.relative_to(TOP)): it.read_bytes() for it in found}
@@ -99,15 +102,15 @@ HEADERS = "ordup.h", "ordup_cluster.h", "ordup_holds.h"
 class Contents:
     """What the packages hold, of a program, of the folder of its library, and of the account of their proof."""
 
-    def __init__(self, program, library, proof, epoch):
+    def __init__(self, program: Path, library: Path, proof: Path, epoch: int):
         self.epoch, self.version = epoch, version_of(program)
-        self.program, self.proof = Path(program).read_bytes(), Path(proof).read_bytes()
-        self.archive, self.shared = (Path(library, it).read_bytes() for it in ("libordup.a", "libordup.so"))
-        self.soname = re.search(rb"\0(libordup\.so\.\d+)\0", self.shared)[1].decode("ascii")
-        self.headers = {it: Path(library, it).read_text(encoding="utf-8") for it in HEADERS}
+        self.program, self.proof = program.read_bytes(), proof.read_bytes()
+        self.archive, self.shared = ((library / it).read_bytes() for it in ("libordup.a", "libordup.so"))
+        self.soname = manual.found_in(self.shared, rb"\0(libordup\.so\.\d+)\0")[1].decode("ascii")
+        self.headers = {it: (library / it).read_text(encoding="utf-8") for it in HEADERS}
         self.summary = summary_of(self.headers["ordup.h"])
         self.commands = manual.usage((TOP / "docs/FORMATS.md").read_text(encoding="utf-8"))
-        jobs = dict.fromkeys(it.split()[1] for it, _ in self.commands if not it.split()[1].startswith("-"))
+        jobs = dict.fromkeys(it.split()[1] for it in self.commands if not it.split()[1].startswith("-"))
         helps = {name: said_by(program, *name.split(), "--help") for name in ["", *jobs]}
         told = (epoch, self.version, self.summary)
         self.pages_of_manual = {
@@ -116,10 +119,10 @@ class Contents:
                for it, text in self.headers.items()},
         }
 
-    def below(self, library="lib", where=WHERE_IT_LIES, pack=None):
+    def below(self, library: str = "lib", where: tuple[str, str] = WHERE_IT_LIES, pack: Callable[[bytes], bytes] | None = None) -> list[Entry]:
         """What lies below a prefix, in which `library` is the folder of libraries; man pages as `pack` packs them."""
         config = description("ordup", self.version, self.summary, *where)
-        made = {
+        made: dict[str, bytes | str] = {
             f"{library}/{self.soname}": self.shared,
             f"{library}/libordup.so": self.soname,
             f"{library}/libordup.a": self.archive,

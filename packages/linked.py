@@ -1,10 +1,12 @@
 """Whose code is linked into ordup-node beside ordup's own, and what its licences ask to be passed on with it."""
 
+from __future__ import annotations
+
 import os
-import re
 from pathlib import Path
 
 from contents import TOP, said_by
+from manual import found_in
 
 # Debian's packages of the code, by what their import paths begin with.
 PACKAGES = {
@@ -56,24 +58,24 @@ PACKAGES = {
 OPENING = "What follows is of the code of others that is linked into ordup-node, under the licences that it names.\n"
 
 
-def imported(library):
+def imported(library: Path) -> list[str]:
     """The import paths of what is linked, but for those of Go itself and of ordup."""
     words = ["--do", "list", "-tags", "library", "-deps", "-f", "{{if not .Standard}}{{.ImportPath}}{{end}}"]
     said = said_by("env", "NODE_PACKAGES=.", TOP / "node/build", library, *words)
     return [it for it in said.split() if not it.startswith("ordup.dev/")]
 
 
-def package_of(path):
+def package_of(path: str) -> str:
     found = [name for start, name in PACKAGES.items() if f"{path}/".startswith(f"{start}/")]
     if len(found) != 1:
         raise ValueError(f"packages/linked.py does not say of which package {path} is")
     return found[0]
 
 
-def rights(library):
+def rights(library: Path) -> str:
     """The notices of the packages that are linked, as Debian has them, and that of Go."""
     documents = Path(os.environ.get("GOCODE") or "/usr/share/gocode").parent / "doc"
-    go = re.search(r"\bgo(\d+\.\d+)", said_by("go", "version"))[1]
+    go = found_in(said_by("go", "version"), r"\bgo(\d+\.\d+)")[1]
     names = sorted({*map(package_of, imported(library)), f"golang-{go}-go"})
     notices = ((documents / name / "copyright").read_text(encoding="utf-8") for name in names)
     return OPENING + "".join(f"\n{'=' * 72}\n{name}\n{'=' * 72}\n\n{text}" for name, text in zip(names, notices))

@@ -1,8 +1,11 @@
 """What the package of ordup-node holds."""
 
+from __future__ import annotations
+
 import hashlib
 import re
 from pathlib import Path
+from typing import Callable
 
 import linked
 import manual
@@ -13,18 +16,22 @@ NAME = "ordup-node"
 SUMMARY = "primaries and sites of ordup over several machines"
 # A conffile: as it stands a process that is started with it reaches this machine alone, so it asks no wrong host.
 SETTINGS = "etc/ordup-node/settings"
-PAGE = "docs/MACHINES.md"
-EXAMPLE = "examples/machines/shop.ordup"
+# The pages by the names of their files, and what who asks by HTTP takes beside them. The client in Go is with the binding for Go.
+PAGES = ("MACHINES.md", "HOSTS.md", "HTTP.md")
+FOR_CLIENTS = ("node/openapi.json", "clients/python/ordup_node.py")
+# What the pages show.
+EXAMPLES = "examples/machines"
+SHOWN = ("shop.ordup", "three/certify", "three/etcd", "three/settings")
 # A name by default which is that of the machine where the program runs.
 OWN_NAME = re.compile(r"^(  --host .*) \(\S*\)$", re.M)
 
 
-def account(proof, program):
+def account(proof: bytes, program: bytes) -> bytes:
     """The account of the proof, with a line on the program, of which no line of a proof is."""
     return proof + f"unproved bin/{NAME} {hashlib.sha256(program).hexdigest()} its own code is tested alone\n".encode("ascii")
 
 
-def statuses():
+def statuses() -> list[tuple[str, str]]:
     """The statuses of the program, each with what it says."""
     source = (TOP / "node/internal/exit/exit.go").read_text(encoding="utf-8")
     found = re.findall(r"^\t// (\w+) (?:is|says that) (.*)\.\n\t\1 Status = (\d+)$", source, re.M)
@@ -33,29 +40,29 @@ def statuses():
     return [(status, meaning) for _, meaning, status in found]
 
 
-def pages():
-    """The page with its pictures, and the declarations of its example, by where they lie in the folder of the package."""
-    page = (TOP / PAGE).read_bytes()
-    pictures = re.findall(rb"\]\((\w+\.(?:png|svg))\)", page)
-    made = {it.decode("ascii"): (TOP / "docs" / it.decode("ascii")).read_bytes() for it in pictures}
-    return {"MACHINES.md": page, **made, "examples/shop.ordup": (TOP / EXAMPLE).read_bytes()}
+def pages() -> dict[str, bytes]:
+    """The pages, with their pictures and examples, by where they lie in the folder of the package."""
+    made = {it: (TOP / "docs" / it).read_bytes() for it in PAGES}
+    pictures = {it.decode("ascii") for page in made.values() for it in re.findall(rb"\]\((\w+\.(?:png|svg))\)", page)}
+    made.update({it: (TOP / "docs" / it).read_bytes() for it in sorted(pictures)})
+    return {**made, **{f"examples/{it}": (TOP / EXAMPLES / it).read_bytes() for it in SHOWN}}
 
 
 class Node:
     """The program ordup-node, with what was proved of the library in it, and whose code is in it."""
 
-    def __init__(self, program, library, proof, epoch):
+    def __init__(self, program: Path, library: Path, proof: Path, epoch: int):
         self.epoch, self.version, self.summary = epoch, version_of(program, NAME), SUMMARY
-        self.program = Path(program).read_bytes()
+        self.program = program.read_bytes()
         self.rights = (TOP / "packages/copyright").read_text(encoding="utf-8") + "\n" + linked.rights(library)
-        self.proof = account(Path(proof).read_bytes(), self.program)
+        self.proof = account(proof.read_bytes(), self.program)
         helped = said_by(program, "--help")
         helps = {it: OWN_NAME.sub(r"\1 (that of the machine)", said_by(program, it, "--help"))
-                 for it in re.findall(r"^  (\w+) ", helped, re.M)}
+                 for it in re.findall(r"^  ([\w-]+) ", helped, re.M)}
         told = (epoch, self.version, SUMMARY)
-        self.manual = manual.page_of_node(helped, helps, first_paragraph(PAGE), statuses(), *told).encode("utf-8")
+        self.manual = manual.page_of_node(helped, helps, first_paragraph("docs/MACHINES.md"), statuses(), *told).encode("utf-8")
 
-    def files(self, pack):
+    def files(self, pack: Callable[[bytes], bytes]) -> list[Entry]:
         """All that is installed. Man pages are as `pack` packs them."""
         folder = TOP / "node/systemd"
         made = {
@@ -64,7 +71,9 @@ class Node:
             f"usr/share/{NAME}/proof": self.proof,
             f"usr/share/doc/{NAME}/copyright": self.rights.encode("utf-8"),
             **{f"lib/systemd/system/{it.name}": it.read_bytes() for it in sorted(folder.glob("*.service"))},
-            **{f"usr/share/{NAME}/prometheus/{it.name}": it.read_bytes() for it in sorted((TOP / "node/prometheus").glob("*.yml"))},
+            **{f"usr/share/{NAME}/{it.parent.name}/{it.name}": it.read_bytes()
+               for kind in ("prometheus/*.yml", "grafana/*.json") for it in sorted((TOP / "node").glob(kind))},
+            **{f"usr/share/{NAME}/{Path(it).name}": (TOP / it).read_bytes() for it in FOR_CLIENTS},
             **{f"usr/share/doc/{NAME}/{it}": data for it, data in pages().items()},
         }
         return [Entry(f"usr/bin/{NAME}", 0o755, self.program), *(Entry(path, 0o644, data) for path, data in made.items())]

@@ -1,5 +1,7 @@
 """Opens the packages that `packages/build` makes, and no others: of one that is laid otherwise another reader might see more, or less."""
 
+from __future__ import annotations
+
 import io
 import tarfile
 import zipfile
@@ -12,32 +14,40 @@ class Odd(Exception):
     """Why a file is no package as they are made here."""
 
 
-def must(is_so, why):
+def must(is_so: bool, why: str) -> None:
     if not is_so:
         raise Odd(why)
 
 
-def unpacked(packed):
+def unpacked(packed: bytes | str) -> bytes:
+    if isinstance(packed, str):
+        raise Odd("it has a link in place of what is packed")
     unpacker = zlib.decompressobj(wbits=31)
     data = unpacker.decompress(packed)
     must(unpacker.eof and not unpacker.unused_data, "it is cut, or goes on after its end")
     return data
 
 
-def tar_entries(packed, top=""):
+def data_of(archive: tarfile.TarFile, member: tarfile.TarInfo) -> bytes | str:
+    """The bytes of a file, or the name that another entry leads to."""
+    file = archive.extractfile(member) if member.isreg() else None
+    return file.read() if file else member.linkname
+
+
+def tar_entries(packed: bytes, top: str = "") -> list[Entry]:
     """The entries of a packed tar archive, without the folder that all of them are in, and unpacked where they are packed. Made again of
     these it is the same bytes: so it has nothing twice, no hard link, and nothing between them or behind."""
     data = unpacked(packed)
     with tarfile.open(fileobj=io.BytesIO(data)) as it:
-        found = [(member, it.extractfile(member).read() if member.isreg() else member.linkname) for member in it if not member.isdir()]
-    must(found, "it is empty")
+        found = [(member, data_of(it, member)) for member in it if not member.isdir()]
+    must(bool(found), "it is empty")
     top = top or found[0][0].name.partition("/")[0] + "/"
     entries = [Entry(member.name[len(top) :], member.mode, held) for member, held in found]
     must(tar(entries, found[0][0].mtime, top) == data, "it is not laid as the packages of ordup are")
     return [it._replace(data=unpacked(it.data)) if it.path.endswith(".gz") else it for it in entries]
 
 
-def ar_members(data):
+def ar_members(data: bytes) -> list[tuple[str, bytes]]:
     """The names of an archive as ar makes it, with their bytes."""
     found, at = [], 8
     while at < len(data):
@@ -48,7 +58,7 @@ def ar_members(data):
     return found
 
 
-def of_debian(data):
+def of_debian(data: bytes) -> dict[str, Entry]:
     """What a package for Debian holds: what dpkg is told, by its names, and what is installed, by its paths, which begin with `/`."""
     members = ar_members(data)
     must([name for name, _ in members] == ["debian-binary", "control.tar.gz", "data.tar.gz"], "it has other parts than a package has")
@@ -58,7 +68,7 @@ def of_debian(data):
     return {**{it.path: it for it in tar_entries(told, "./")}, **{f"/{it.path}": it for it in tar_entries(installed, "./")}}
 
 
-def of_wheel(data):
+def of_wheel(data: bytes) -> dict[str, Entry]:
     """What a wheel holds. Its entries follow one another, and then comes the list of them, with nothing between or behind."""
     with zipfile.ZipFile(io.BytesIO(data)) as it:
         listed, end_of_last = it.infolist(), 0
@@ -72,7 +82,7 @@ def of_wheel(data):
         return {entry.filename: Entry(entry.filename, entry.external_attr, it.read(entry)) for entry in listed}
 
 
-def opened(name, data):
+def opened(name: str, data: bytes) -> dict[str, Entry] | None:
     """What a package holds, by the paths of the entries, or None where a file of this name, with these bytes, is none."""
     try:
         if data[8:21] == b"debian-binary":

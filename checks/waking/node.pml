@@ -9,7 +9,7 @@
 
    An entry is what the script comes to with it, as a core has it: that a replay comes to the same is taken as given. A primary takes over
    at any time, which is more than its own lease allows: nothing that holds here stands on that lease. An update is a place of a log, a
-   limit is a count, and what is told by HTTP is lost, late or comes twice. Left out are refusals of a store, how entries leave the
+   limit is a count, and what is told by HTTP is lost, late or comes twice. Left out are refusals of a store, limits that change, how entries leave the
    engine, which entries a process does not believe, wishes that differ, and whether anything happens in time.
 
    SITES sites have PROCESSES processes each, with the limit LIMIT. CLIENTS clients ask for REQUESTS updates each, one after the other, as
@@ -24,7 +24,8 @@
    too. HASTY: they ask under the next number before they have an answer. UNLISTED: the processes are of a fleet which does not list them,
    and whose other members tell for it.
 
-   Alike are processes before their first step: so the first one creates the first key, and the first primary takes over first. */
+   There is no state for what nobody looks at any more. Alike are processes of a site without a key and what they asked for it: so of two
+   the first one creates the next key. The first primary takes over first. */
 
 #ifndef SITES
 #define SITES 1
@@ -128,7 +129,7 @@ byte leases[SITES];           /* how many there were */
 #define OWN (me + 1)
 
 /* The primaries. */
-mtype = { stands, takes, writes, sent, written, refused };
+mtype = { stands, takes, writes, sent, written };
 mtype mode[PRIMARIES] = stands;
 mtype flight[PRIMARIES] = stands;
 byte number_of[PRIMARIES];    /* of the batch on its way, and else of the last entry that was run */
@@ -141,14 +142,14 @@ byte take_overs, deaths, late_number, late_term, writer;
 bool late_takes;
 
 /* The processes of sites. */
-byte run_to[ALL], shown[ALL], from[ALL], end_at_start[ALL];
+byte run_to[ALL], shown[ALL], from[ALL];
 bool over[ALL];
 mtype = { no_key, created, looked, held };
 mtype stage[ALL] = no_key;
 bool relies[ALL], fresh[ALL], renewed[ALL], taken[ALL];
 byte bad[ALL];                /* a reader has taken values that are no good: too little, or of a site that is gone */
 byte mine[ALL];               /* the lease that it holds, or looks after */
-byte given[ALL];              /* the last lease that it gave back */
+byte given[ALL];              /* the lease that it gave back, while its key is there */
 byte creates[ALL], revokes[ALL];   /* leases of calls that the engine has not heard of yet */
 byte falls, hands;
 #ifdef LOOKS_AT_THE_LEASE_FIRST
@@ -165,12 +166,13 @@ byte lacks[ALL];
 byte places[SITES * (EPOCHS + 1)];   /* of each epoch the last place that a site told */
 byte shown_and_told[SITES];          /* from the first epoch on */
 byte asked_to[CLIENTS] = 1;          /* the number under which a client asks now */
-byte heard[CLIENTS * (REQUESTS + 1)], scripted[CLIENTS * (REQUESTS + 1)];
+byte scripted[CLIENTS * (REQUESTS + 1)];
 #ifdef OTHER_CHANGES
 byte changed[CLIENTS * (REQUESTS + 1)];
 #endif
 int done;
-byte acknowledged;                   /* from the first epoch on, the last place that a client was told as acknowledged */
+byte acknowledged;                   /* the last place that a client was told as acknowledged, where that in the script is before it */
+#define ACKED (before[core[SCRIPT].epoch] + core[SCRIPT].acked)      /* both from the first epoch on */
 
 #define ANSWER(epoch, place) ((epoch) * 8 + (place))
 #define CODE(client, number) ((client) * REQUESTS + (number))
@@ -296,6 +298,28 @@ inline judge(at) {
 #else
 #define IS_NEXT(number) (last == (number) - 1)
 #endif
+#if defined(GOES_ON_AFTER_ANOTHER) || defined(GOES_ON_AFTER_A_REFUSAL)
+#define IS_TOO_LATE(number) false
+#define IS_REPLACED false
+#else
+#define IS_TOO_LATE(number) (last >= (number))
+/* Whatever one takes that was replaced is never written, since the engine refuses its next batch. So it takes nothing here. */
+#define IS_REPLACED (last > number_of[me] || flight[me] == sent && last == number_of[me])
+#endif
+
+/* Nobody looks into a batch again that is on its way and comes too late. */
+inline drop_what_is_too_late() {
+    for (y : 0 .. PRIMARIES - 1) {
+        if
+        :: flight[y] == sent && IS_TOO_LATE(number_of[y]) ->
+            drop(1 + PRIMARIES + y);
+            if :: mode[y] == takes -> drop(1 + y) :: else fi
+        :: else
+        fi
+    }
+    if :: late_number && IS_TOO_LATE(late_number) -> late_number = 0; late_term = 0; late_takes = false; drop(LATE) :: else fi;
+    y = 0
+}
 
 inline commit(at, term, is_take_over) {
     if
@@ -314,14 +338,24 @@ inline commit(at, term, is_take_over) {
     copy(SCRIPT, at)
 }
 
-/* An answer that is told stands in the script, and is the one that was told before. */
+/* An answer that is told stands in the script, where none changes. So it is the one that was told before. */
 inline tell_client(client, at) {
     z = CODE(client, core[at].number[client]); best = core[at].answer[client];
     NEVER(TOLD_BEFORE_IT_IS_WRITTEN, scripted[z] == best);
-    NEVER(ANSWER_CHANGES, !heard[z] || heard[z] == best);
-    heard[z] = best;
     best = before[best / 8] + best % 8;
-    if :: best > acknowledged -> acknowledged = best :: else fi;
+    if :: best > ACKED && best > acknowledged -> acknowledged = best :: else fi;
+#ifdef PROBE_EACH_REQUEST_IS_ANSWERED
+    assert(best < MOST - ROOM);
+#endif
+#ifdef PROBE_THE_SECOND_EPOCH_ACKNOWLEDGES
+    assert(core[SCRIPT].epoch < 2 || best <= before[2]);
+#endif
+#ifdef PROBE_THE_SECOND_PRIMARY_ANSWERS
+    assert(me == 0 || take_overs < 2 || mode[0] != writes || flight[0] != sent || number_of[0] > last);
+#endif
+#ifdef PROBE_A_FLEET_ANEW_ACKNOWLEDGES
+    assert(!began_anew || places[1] != 1 || shown_and_told[1] || !leases[1]);
+#endif
     z = 0; best = 0
 }
 
@@ -406,7 +440,7 @@ inline tell_client(client, at) {
 /* A request comes, for the first time or again. While the epoch ends it is not taken; a site may count as away while it lacks updates. */
 inline ask(c, n, d) {                                /* epoch/batch.go Ask: reply take add */ /* epoch/ending.go ends: isDue isHere */
     if                                               /* epoch/batch.go reply */
-    :: IS_NEW(c, n) && core[OPEN].updates < MOST && !CARRIES(OPEN) && !(IS_DUE(OPEN) && ALL_HERE) ->
+    :: IS_NEW(c, n) && core[OPEN].updates < MOST && !CARRIES(OPEN) && !(IS_DUE(OPEN) && ALL_HERE) && !IS_REPLACED ->
         core[OPEN].owner[core[OPEN].updates] = CODE(c, n);
         core[OPEN].updates++; core[OPEN].asks++;
         core[OPEN].number[c] = n; core[OPEN].answer[c] = 0;
@@ -414,7 +448,9 @@ inline ask(c, n, d) {                                /* epoch/batch.go Ask: repl
         core[OPEN].changes[c] = d;
 #endif
         open_answers[me] = open_answers[me] & ~(1 << c); flying_answers[me] = flying_answers[me] & ~(1 << c);
+#if defined(HASTY) || defined(OTHER_CHANGES)
         open_asks[me] = open_asks[me] | (1 << c); flying_asks[me] = flying_asks[me] & ~(1 << c);
+#endif
 #ifdef ANSWERS_BEFORE_IT_SETTLES
         core[OPEN].answer[c] = ANSWER(core[OPEN].epoch, core[OPEN].updates); open_answers[me] = open_answers[me] | (1 << c);
 #endif
@@ -545,18 +581,19 @@ end:
            fi }
     /* The engine takes the batch that is on its way, or does not. */
     :: d_step { flight[me] == sent && IS_NEXT(number_of[me]) && ALL_ABSENT(FLYING) && last < ENTRIES ->
-           commit(FLYING, term_of[me], mode[me] == takes); flight[me] = written }   /* primary/write.go send: Write */
-    :: d_step { flight[me] == sent && !(IS_NEXT(number_of[me]) && ALL_ABSENT(FLYING)) -> flight[me] = refused }
+           commit(FLYING, term_of[me], mode[me] == takes); flight[me] = written;   /* primary/write.go send: Write */
+           drop_what_is_too_late() }
     :: atomic { flight[me] == written ->
            mode[me] = writes; flight[me] = stands;   /* primary/write.go land: Land tell */ /* writer/writer.go Land: Written */
 #ifndef TELLS_BEFORE_IT_WRITES
            tell_answers(FLYING);
 #endif
            d_step { flying_answers[me] = 0; flying_asks[me] = 0; drop(FLYING) } }
+    :: d_step { flight[me] == sent && !(IS_NEXT(number_of[me]) && ALL_ABSENT(FLYING)) ->
 #ifdef GOES_ON_AFTER_A_REFUSAL
-    :: d_step { flight[me] == refused -> mode[me] = writes; flight[me] = stands; number_of[me] = last; drop(FLYING) }
+           mode[me] = writes; flight[me] = stands; number_of[me] = last; drop(FLYING) }
 #else
-    :: d_step { flight[me] == refused -> forget() }  /* primary/primary.go heed: RunsAgain forget */
+           forget() }                                /* primary/primary.go heed: RunsAgain forget */
 #endif
     /* It loses its lease, and drops what is not written. */
     :: d_step { mode[me] == writes && flight[me] == stands && take_overs < TAKES ->
@@ -565,7 +602,7 @@ end:
     :: d_step { mode[me] != stands && deaths < DEATHS && (flight[me] != sent || late_number == 0) ->
            deaths++;
            if
-           :: flight[me] == sent ->
+           :: flight[me] == sent && !IS_TOO_LATE(number_of[me]) ->
                late_number = number_of[me]; late_term = term_of[me]; late_takes = (mode[me] == takes); copy(LATE, FLYING)
            :: else
            fi;
@@ -618,14 +655,14 @@ end:
                    /* One that is beyond the updates is of an entry that this core has not run yet. */
                    to_entry_of_best();
                    NEVER(HONEST_PLACE_IS_REFUSED, best <= core[OPEN].updates || z > WRITTEN_TO);
-                   if :: best <= core[OPEN].updates -> told[me * NAMES + it] = best :: else fi
+                   if :: best <= core[OPEN].updates && !IS_REPLACED -> told[me * NAMES + it] = best :: else fi
                :: else
                fi;
                best = 0; y = 0; z = 0
            };
            it = 0 }
     /* A wish comes for an epoch. */
-    :: d_step { mode[me] == writes && IS_WISHED && !core[OPEN].wish && !CARRIES(OPEN) ->
+    :: d_step { mode[me] == writes && IS_WISHED && !core[OPEN].wish && !CARRIES(OPEN) && !IS_REPLACED ->
            core[OPEN].wish = true; dirty[me] = true; /* epoch/ending.go AskNext: complete mayWish add */
 #ifdef LEAVE
            if :: core[OPEN].epoch == 1 -> core[OPEN].leaves = 1 << NAME(SITES - 1) :: else fi;
@@ -634,7 +671,7 @@ end:
 #ifdef LEAVE
     /* The engine had no key of a site that leaves. */
     :: d_step { mode[me] == writes && !CARRIES(OPEN) && core[OPEN].leaves && core[OPEN].gone != core[OPEN].leaves &&
-                NO_KEY_OF_THE_LAST ->
+                NO_KEY_OF_THE_LAST && !IS_REPLACED ->
            core[OPEN].gone = core[OPEN].leaves;      /* primary/leaving.go look: SiteKeys clear */ /* epoch/ending.go Gone: of add */
            core[OPEN].applied[NAME(SITES - 1)] = core[OPEN].updates; dirty[me] = true }
 #endif
@@ -644,7 +681,7 @@ end:
            key[SITES - 1] = NOBODY }                 /* primary/leaving.go clear: See RemoveKey */
 #endif
     :: atomic { mode[me] == writes && flight[me] == stands && number_of[me] < ENTRIES && core[OPEN].epoch < EPOCHS &&
-                (dirty[me] || SOME_TOLD || IS_DUE(OPEN)) ->
+                (dirty[me] || SOME_TOLD || IS_DUE(OPEN)) && !IS_REPLACED ->
            if :: CARRIES(OPEN) :: else -> work() fi; /* primary/write.go work: take start seal */
            seal() }                                  /* primary/write.go seal: Seal send */ /* writer/writer.go Seal: Seal Add */
     od
@@ -664,7 +701,8 @@ end:
 #endif
            :: else
            fi;
-           late_number = 0; late_term = 0; late_takes = false; drop(LATE) }
+           late_number = 0; late_term = 0; late_takes = false; drop(LATE);
+           drop_what_is_too_late() }
     od
 }
 
@@ -673,7 +711,6 @@ end:
 #define SITE (me / PROCESSES)
 #define OTHER (SITE * PROCESSES + PROCESSES - 1 - me % PROCESSES)
 #define PLACE (place_of[shown[me]] - LACKS)
-#define ACKED (before[core[SCRIPT].epoch] + core[SCRIPT].acked)
 /* What is shown has all that was told for the site, and lacks no more than the limit of what is acknowledged. */
 #define IS_ENOUGH (PLACE >= shown_and_told[SITE] && PLACE + LIMIT >= ACKED && PLACE + LIMIT >= acknowledged)
 #define IS_GONE (core[SCRIPT].gone & (1 << NAME(SITE)))
@@ -727,6 +764,10 @@ end:
 #define IS_MINE (key[SITE] == OWN && lease[SITE] == mine[me])
 #endif
 
+/* Whether a process is as at its start, so that its site has none that differs from it but by its number. */
+#define IS_FRESH(process) (stage[process] == no_key && !over[process] && !from[process] && !bad[process] && !given[process] && \
+                           !creates[process] && !revokes[process])
+
 inline rely() {                                      /* lease/lease.go rely */
 #ifdef RELIES_FROM_THE_ANSWER
     relies[me] = true;
@@ -737,10 +778,12 @@ inline rely() {                                      /* lease/lease.go rely */
     fresh[me] = false
 }
 
+/* What it has run counts for nothing in another term, nor what it shows. */
 inline end_term() {
     mine[me] = 0; relies[me] = false; fresh[me] = false; renewed[me] = false; stage[me] = no_key;
+    run_to[me] = 0; shown[me] = 0;
 #ifndef KEEPS_ITS_TERM
-    bad[me] = 0;
+    taken[me] = false; bad[me] = 0;
 #endif
 #ifndef READS_THE_END_ONCE
     from[me] = 0
@@ -749,7 +792,6 @@ inline end_term() {
 
 /* It relies no more, and then gives its lease back. The engine takes that away at once, never, or later. */
 inline give_up() {                                   /* lease/lease.go GiveUp: revoke */ /* engine/lease.go revoke: Revoke */
-    given[me] = mine[me];
     if
     :: IS_MINE -> key[SITE] = NOBODY
     :: true
@@ -757,23 +799,31 @@ inline give_up() {                                   /* lease/lease.go GiveUp: r
     :: revokes[me] == 0 -> revokes[me] = mine[me]
 #endif
     fi;
+    if :: IS_MINE -> given[me] = mine[me] :: else fi;
     end_term()
 }
 
 proctype site(byte me) {
 end:
     do
-    /* It runs the next entry, and shows it. One that is taken out shows nothing from there on. */
-    :: d_step { !over[me] && run_to[me] < last ->    /* site/site.go follow: start Follow run Show show */
-           run_to[me]++;                             /* site/replica.go Replay: Take begin propose heed */
-           if                                        /* site/replica.go heed */
+    /* It runs the next entry, and shows it, up to the first one that it may serve. One that is taken out shows nothing from there on. */
+    :: d_step { !over[me] && MAY_READ && run_to[me] < last ->   /* site/site.go follow: start Follow run Show show */
+           do
+           :: run_to[me]++;                          /* site/replica.go Replay: Take begin propose heed */
+              if                                     /* site/replica.go heed */
 #ifdef SERVES_AFTER_IT_WAS_TAKEN_OUT
-           :: false
+              :: false
 #else
-           :: left_by[run_to[me]] & (1 << NAME(SITE)) -> over[me] = true; shown[me] = 0; end_term()
+              :: left_by[run_to[me]] & (1 << NAME(SITE)) -> over[me] = true; end_term(); break
 #endif
-           :: else -> shown[me] = run_to[me]
-           fi }
+              :: else -> shown[me] = run_to[me]
+              fi;
+              if :: REACHED || run_to[me] == last -> break :: else fi
+           od;
+#if !defined(READS_THE_END_ONCE) && !defined(READS_THE_END_FIRST)
+           if :: REACHED -> from[me] = 0 :: else fi
+#endif
+       }
 #ifdef SKIPS_WHAT_CAME
     :: d_step { !over[me] && run_to[me] > 0 && run_to[me] < last && lacks[me] == 0 ->
            run_to[me]++; lacks[me] = place_of[run_to[me]] - place_of[run_to[me] - 1] }
@@ -785,16 +835,14 @@ end:
                                                      /* site/site.go start: Start Last NewReplica */
 #endif
     /* It dies, and another is started. */
-    :: d_step { falls < FALLS && (run_to[me] > 0 || stage[me] != no_key) ->
+    :: d_step { falls < FALLS && (over[me] || stage[me] != no_key) ->
            falls++;
            if :: key[SITE] == OWN -> key[SITE] = DEAD :: else fi;
            end_term();
-           over[me] = false; shown[me] = 0; from[me] = 0; taken[me] = false; revokes[me] = 0; creates[me] = 0; given[me] = 0;
-           end_at_start[me] = last;
-           run_to[me] = first_of[core[SCRIPT].epoch] - 1 }
+           over[me] = false; from[me] = 0; taken[me] = false; revokes[me] = 0; creates[me] = 0; given[me] = 0 }
     /* It looks for its key, and creates it where there is none. The answer may be lost. */
-    :: atomic { !over[me] && stage[me] == no_key && shown[me] > 0 && shown[me] >= end_at_start[me] && key[SITE] == NOBODY &&
-                leases[SITE] < TERMS && (leases[SITE] > 0 || me % PROCESSES == 0) ->
+    :: atomic { !over[me] && stage[me] == no_key && last > 0 && key[SITE] == NOBODY && leases[SITE] < TERMS &&
+                (me % PROCESSES == 0 || !IS_FRESH(OTHER)) ->
            leases[SITE]++;                           /* engine/lease.go find: Get Found */ /* lease/lease.go Found */
            if                                        /* engine/lease.go create: Grant Txn Commit Created */
            :: key[SITE] = OWN; lease[SITE] = leases[SITE]; mine[me] = leases[SITE]; stage[me] = created; fresh[me] = true
@@ -807,8 +855,6 @@ end:
     /* The lease may have ended by now. */
     :: atomic { creates[me] -> if :: key[SITE] == NOBODY -> key[SITE] = OWN; lease[SITE] = creates[me] :: true fi; creates[me] = 0 }
 #endif
-    /* Another was faster, so it gives back a lease that has no key. */
-    :: d_step { given[me] && stage[me] == no_key && key[SITE] != NOBODY && key[SITE] != OWN -> given[me] = 0 }
     /* The key is its own, by a call whose answer was lost. */
     :: d_step { !over[me] && stage[me] == no_key && key[SITE] == OWN && MAY_TAKE_UP ->
            stage[me] = created; fresh[me] = true; mine[me] = lease[SITE] }
@@ -822,6 +868,7 @@ end:
 #elif !defined(READS_THE_END_FIRST)
            from[me] = last;
 #endif
+           run_to[me] = first_of[core[SCRIPT].epoch] - 1; shown[me] = 0;
            taken[me] = false; stage[me] = looked }    /* site/site.go mayServe: Last Begin */ /* lease/lease.go Begun: revoke rely */
     :: d_step { stage[me] == looked ->
 #ifndef KEEPS_ITS_TERM
@@ -841,15 +888,18 @@ end:
     :: d_step { stage[me] == held && IS_MINE -> key[SITE] = NOBODY }
 #endif
     :: atomic { stage[me] == held && IS_MINE && leases[SITE] < TERMS -> give_up() }   /* engine/lease.go Run: giveUp step */ /* engine/lease.go step: do next revoke */
-    :: d_step { revokes[me] -> if :: key[SITE] == OWN && lease[SITE] == revokes[me] -> key[SITE] = NOBODY :: else fi; revokes[me] = 0 }
+    :: d_step { revokes[me] ->
+           if :: key[SITE] == OWN && lease[SITE] == revokes[me] -> key[SITE] = NOBODY; given[me] = 0 :: else fi;
+           revokes[me] = 0 }
     /* Time. */
     :: relies[me] -> relies[me] = false
     :: d_step { fresh[me] && !relies[me] -> fresh[me] = false }
     /* The engine ends a lease on which nobody relies by its answers. */
-    :: d_step { key[SITE] == OWN && MAY_END -> key[SITE] = NOBODY }
+    :: d_step { key[SITE] == OWN && MAY_END -> key[SITE] = NOBODY; given[me] = 0 }
     :: d_step { key[SITE] == DEAD -> key[SITE] = NOBODY }
 #if HANDS
-    :: d_step { hands < HANDS && key[SITE] != BY_HAND -> hands++; key[SITE] = BY_HAND }
+    :: d_step { hands < HANDS && key[SITE] != BY_HAND ->
+           hands++; key[SITE] = BY_HAND; given[me] = 0; given[OTHER] = 0 }
 #endif
     /* A reader: the values are taken, and then the lease is looked at. What is good is no step. */
 #ifdef LOOKS_AT_THE_LEASE_FIRST
@@ -932,16 +982,6 @@ init {
         run fleet();
 #endif
     }
-#ifdef PROBE_EACH_REQUEST_IS_ANSWERED
-    ;
-end:
-    heard[MOST - ROOM] && acknowledged == MOST - ROOM -> assert(false)
-#endif
-#ifdef PROBE_THE_SECOND_EPOCH_ACKNOWLEDGES
-    ;
-end:
-    core[SCRIPT].epoch == 2 && acknowledged > before[2] -> assert(false)
-#endif
 #ifdef PROBE_A_SITE_IS_GONE
     ;
 end:
@@ -953,19 +993,9 @@ end:
     core[SCRIPT].epoch == 3 && relies[ALL - 1] && taken[ALL - 1] && epoch_of[shown[ALL - 1]] == 3 && shown[ALL - 1] >= from[ALL - 1] ->
         assert(false)
 #endif
-#ifdef PROBE_A_FLEET_ANEW_ACKNOWLEDGES
-    ;
-end:
-    began_anew && acknowledged && places[1] == 1 && shown_and_told[1] == 0 && leases[1] -> assert(false)
-#endif
 #ifdef PROBE_THE_SECOND_PROCESS_SERVES
     ;
 end:
     relies[1] && taken[1] && shown[1] >= from[1] && places[1] == 1 && leases[0] == 2 -> assert(false)
-#endif
-#ifdef PROBE_THE_SECOND_PRIMARY_ANSWERS
-    ;
-end:
-    mode[1] == writes && acknowledged && take_overs == 2 && mode[0] == writes && flight[0] == sent && number_of[0] <= last -> assert(false)
 #endif
 }

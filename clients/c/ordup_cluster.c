@@ -557,9 +557,10 @@ uint32_t ordup_cluster_read(ordup_cluster *it, ordup_session *session, uint32_t 
     if (at >= it->sites)
         return ORDUP_REFUSED_UNKNOWN_SITE;
     site *here = &it->at[at];
+    uint64_t least = seen_here(it, session);
     ordup_seen seen;
     pthread_mutex_lock(&here->lock);
-    uint32_t status = ordup_site_read(&here->handle, object, seen_here(it, session), &seen);
+    uint32_t status = ordup_site_read(&here->handle, object, least, &seen);
     pthread_mutex_unlock(&here->lock);
     if (status == ORDUP_DONE) {
         *out = (ordup_seen){seen.value, it->before + seen.applied};
@@ -575,9 +576,9 @@ uint32_t ordup_cluster_read_many(ordup_cluster *it, ordup_session *session, uint
     if (at >= it->sites)
         return ORDUP_REFUSED_UNKNOWN_SITE;
     site *here = &it->at[at];
-    uint64_t there;
+    uint64_t least = seen_here(it, session), there;
     pthread_mutex_lock(&here->lock);
-    uint32_t status = ordup_site_read_many(&here->handle, objects, count, seen_here(it, session), values, count, &there);
+    uint32_t status = ordup_site_read_many(&here->handle, objects, count, least, values, count, &there);
     pthread_mutex_unlock(&here->lock);
     if (status == ORDUP_DONE || status == ORDUP_REFUSED_BEHIND)
         *applied = it->before + there;

@@ -2,18 +2,17 @@ package ordup
 
 import (
 	"fmt"
-	"regexp"
+	"strconv"
 	"strings"
 )
 
 // A Change is a change of an object: Add("tea", -5). The changes of one update all read the values before it.
 type Change struct {
-	names []string
-	word  string
+	object, other, word string // The other object is "" but for Take.
 }
 
 func change(kind, object string, number int64) Change {
-	return Change{[]string{object}, fmt.Sprintf("%s:%s:%d", kind, object, number)}
+	return Change{object: object, word: kind + ":" + object + ":" + strconv.FormatInt(number, 10)}
 }
 
 // Add adds a number to the value of an object.
@@ -33,43 +32,61 @@ func Min(object string, number int64) Change { return change("min", object, numb
 
 // Take gives an object the value of another one.
 func Take(object, other string) Change {
-	return Change{[]string{object, other}, "take:" + object + ":" + other}
+	return Change{object, other, "take:" + object + ":" + other}
 }
 
 // A Scope is what a limit weighs of an update.
-type Scope struct {
-	names []string
-	words string
-}
+type Scope struct{ kind, name string }
 
 // Object is how far the update moves the value of an object.
-func Object(name string) Scope { return Scope{[]string{name}, "object " + name} }
+func Object(name string) Scope { return Scope{"object", name} }
 
 // Group is how far it moves the values of a group's members, in sum.
-func Group(name string) Scope { return Scope{[]string{name}, "group " + name} }
+func Group(name string) Scope { return Scope{"group", name} }
 
 // All is how far it moves all values, in sum, and Count is 1.
 var (
-	All   = Scope{nil, "all"}
-	Count = Scope{nil, "count"}
+	All   = Scope{kind: "all"}
+	Count = Scope{kind: "count"}
 )
 
-var isName = regexp.MustCompile(`^[a-z][a-z0-9_]{0,15}$`).MatchString
+// words are the command's words on the scope: those that are names, and all.
+func (s Scope) words() (names, words []string) {
+	if s == All || s == Count {
+		return nil, []string{s.kind}
+	}
+	return []string{s.name}, []string{s.kind, s.name}
+}
 
-// ask answers a command. A text that has not the form of a name, among those that must, is a *BadLine: it could be another command.
-func ask[A Answer](store *Store, names []string, format string, words ...any) (answer A, err error) {
+func isName(text string) bool {
+	if text == "" || len(text) > 16 || text[0] < 'a' || text[0] > 'z' {
+		return false
+	}
+	for at := 1; at < len(text); at++ {
+		if it := text[at]; (it < 'a' || it > 'z') && (it < '0' || it > '9') && it != '_' {
+			return false
+		}
+	}
+	return true
+}
+
+func number(it uint64) string { return strconv.FormatUint(it, 10) }
+
+// ask answers the command of these words. A text that has not the form of a name, among those that must, is a *BadLine: it could make
+// another command.
+func ask[A Answer](s *Store, names []string, words ...string) (answer A, err error) {
 	for _, name := range names {
 		if !isName(name) {
 			return answer, &BadLine{name}
 		}
 	}
-	given, err := store.Command(fmt.Sprintf(format, words...))
+	given, err := s.answer(words...)
 	if err != nil {
 		return answer, err
 	}
 	answer, isOne := given.(A)
 	if !isOne {
-		return answer, fmt.Errorf("ordup: %v is no answer to %q", given, fmt.Sprintf(format, words...))
+		return answer, fmt.Errorf("ordup: %v is no answer to %q", given, strings.Join(words, " "))
 	}
 	return answer, nil
 }
@@ -78,7 +95,7 @@ func ask[A Answer](store *Store, names []string, format string, words ...any) (a
 //
 // Refused AlreadyStarted, NameTaken, OutOfRange or TooMany.
 func (s *Store) Object(name string, value int64) error {
-	_, err := ask[Declared](s, []string{name}, "object %s %d", name, value)
+	_, err := ask[Declared](s, []string{name}, "object", name, strconv.FormatInt(value, 10))
 	return err
 }
 
@@ -87,7 +104,7 @@ func (s *Store) Object(name string, value int64) error {
 // Refused AlreadyStarted, NameTaken, UnknownObject, TooMany, Empty or Repeated.
 func (s *Store) Group(name string, members ...string) error {
 	names := append([]string{name}, members...)
-	_, err := ask[Declared](s, names, "group %s", strings.Join(names, " "))
+	_, err := ask[Declared](s, names, append([]string{"group"}, names...)...)
 	return err
 }
 
@@ -95,7 +112,7 @@ func (s *Store) Group(name string, members ...string) error {
 //
 // Refused AlreadyStarted, NameTaken, OutOfRange or TooMany.
 func (s *Store) Site(name string, capacity uint64) error {
-	_, err := ask[Declared](s, []string{name}, "site %s %d", name, capacity)
+	_, err := ask[Declared](s, []string{name}, "site", name, number(capacity))
 	return err
 }
 
@@ -104,7 +121,7 @@ func (s *Store) Site(name string, capacity uint64) error {
 //
 // Refused AlreadyStarted, UnknownObject, UnknownGroup, UnknownSite, OutOfRange, TooMany or Repeated.
 func (s *Store) Limit(site string, scope Scope, amount uint64) error {
-	_, err := ask[Declared](s, append([]string{site}, scope.names...), "limit %s %s %d", site, scope.words, amount)
+	_, err := askLimit[Declared](s, "limit", site, scope, amount)
 	return err
 }
 
@@ -121,12 +138,15 @@ func (s *Store) Start() error {
 //
 // Refused NotStarted, UnknownObject, OutOfRange, TooMany, Empty, Repeated or LogFull.
 func (s *Store) Propose(changes ...Change) (uint64, error) {
-	line, names := "propose", []string{}
+	words, names := make([]string, 1, 8), make([]string, 0, 8)
+	words[0] = "propose"
 	for _, change := range changes {
-		line += " " + change.word
-		names = append(names, change.names...)
+		words, names = append(words, change.word), append(names, change.object)
+		if strings.HasPrefix(change.word, "take:") {
+			names = append(names, change.other)
+		}
 	}
-	proposed, err := ask[Proposed](s, names, "%s", line)
+	proposed, err := ask[Proposed](s, names, words...)
 	return proposed.Place, err
 }
 
@@ -134,7 +154,7 @@ func (s *Store) Propose(changes ...Change) (uint64, error) {
 //
 // Refused NotStarted, UnknownSite, NothingToSend or FeedFull.
 func (s *Store) Send(site string) (uint64, error) {
-	sent, err := ask[Sent](s, []string{site}, "send %s", site)
+	sent, err := ask[Sent](s, []string{site}, "send", site)
 	return sent.Place, err
 }
 
@@ -142,7 +162,7 @@ func (s *Store) Send(site string) (uint64, error) {
 //
 // Refused NotStarted, UnknownSite or NothingToApply.
 func (s *Store) Apply(site string) (uint64, error) {
-	applied, err := ask[Applied](s, []string{site}, "apply %s", site)
+	applied, err := ask[Applied](s, []string{site}, "apply", site)
 	return applied.Place, err
 }
 
@@ -151,7 +171,7 @@ func (s *Store) Apply(site string) (uint64, error) {
 //
 // Refused NotStarted or UnknownSite.
 func (s *Store) Report(site string) (uint64, error) {
-	reported, err := ask[Reported](s, []string{site}, "report %s", site)
+	reported, err := ask[Reported](s, []string{site}, "report", site)
 	return reported.Applied, err
 }
 
@@ -165,7 +185,7 @@ func (s *Store) Settle() (Settled, error) { return ask[Settled](s, nil, "settle"
 //
 // Refused NotStarted, UnknownSite, OutOfRange, TooMany or QueryOpen.
 func (s *Store) Begin(query, site string, limit uint64) (uint64, error) {
-	begun, err := ask[Begun](s, []string{query, site}, "begin %s %s %d", query, site, limit)
+	begun, err := ask[Begun](s, []string{query, site}, "begin", query, site, number(limit))
 	return begun.Place, err
 }
 
@@ -173,21 +193,21 @@ func (s *Store) Begin(query, site string, limit uint64) (uint64, error) {
 //
 // Refused NotStarted, UnknownObject, UnknownQuery, TooMany or OverImport.
 func (s *Store) Read(query, object string) (Read, error) {
-	return ask[Read](s, []string{query, object}, "read %s %s", query, object)
+	return ask[Read](s, []string{query, object}, "read", query, object)
 }
 
 // End ends a query, and gives the sum of what it read. Its name is free again.
 //
 // Refused NotStarted or UnknownQuery.
 func (s *Store) End(query string) (Ended, error) {
-	return ask[Ended](s, []string{query}, "end %s", query)
+	return ask[Ended](s, []string{query}, "end", query)
 }
 
 // Abandon ends a query without its sum. Its name is free again.
 //
 // Refused NotStarted or UnknownQuery.
 func (s *Store) Abandon(query string) error {
-	_, err := ask[Abandoned](s, []string{query}, "abandon %s", query)
+	_, err := ask[Abandoned](s, []string{query}, "abandon", query)
 	return err
 }
 
@@ -195,14 +215,14 @@ func (s *Store) Abandon(query string) error {
 //
 // Refused NotStarted or UnknownSite.
 func (s *Store) Show(site string) (Shown, error) {
-	return ask[Shown](s, []string{site}, "show %s", site)
+	return ask[Shown](s, []string{site}, "show", site)
 }
 
 // Certify shows that the forced rounds of a site are the fewest. The answer has a window for each of them, so it may be long.
 //
 // Refused NotStarted or UnknownSite.
 func (s *Store) Certify(site string) (Certified, error) {
-	return ask[Certified](s, []string{site}, "certify %s", site)
+	return ask[Certified](s, []string{site}, "certify", site)
 }
 
 // Relimit changes a limit of a site while the store runs, or gives it one, and gives the place of the head, from which on it is in
@@ -211,7 +231,12 @@ func (s *Store) Certify(site string) (Certified, error) {
 //
 // Refused NotStarted, UnknownObject, UnknownGroup, UnknownSite, OutOfRange, TooMany, HeadPending or LagOver.
 func (s *Store) Relimit(site string, scope Scope, amount uint64) (uint64, error) {
-	names := append([]string{site}, scope.names...)
-	relimited, err := ask[Relimited](s, names, "relimit %s %s %d", site, scope.words, amount)
+	relimited, err := askLimit[Relimited](s, "relimit", site, scope, amount)
 	return relimited.Place, err
+}
+
+func askLimit[A Answer](s *Store, command, site string, scope Scope, amount uint64) (A, error) {
+	names, words := scope.words()
+	words = append(append([]string{command, site}, words...), number(amount))
+	return ask[A](s, append([]string{site}, names...), words...)
 }

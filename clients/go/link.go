@@ -3,7 +3,7 @@
 package ordup
 
 /*
-#cgo CFLAGS: -I${SRCDIR}/../../out
+#cgo CFLAGS: -I${SRCDIR}/../../out -I${SRCDIR}/../c
 #cgo LDFLAGS: -L${SRCDIR}/../../out -l:libordup.a
 */
 import "C"

@@ -43,6 +43,8 @@ type Store struct {
 	// What a call writes: its answers, of which the caller gets a copy, and how many bytes were taken and written.
 	room           []byte
 	taken, written C.size_t
+	// The line of the last command, and what was answered: the next one has their room.
+	line, answers []byte
 }
 
 // Open gives a store before its first line. Close gives its memory back, and so does the collector for a store that is forgotten. The
@@ -84,11 +86,16 @@ func (s *Store) Close() error {
 func (s *Store) Run(text []byte) ([]byte, error) {
 	s.lock.Lock()
 	defer s.lock.Unlock()
+	return s.run(text, []byte{})
+}
+
+// run adds the answers to those that are there. The lock is held.
+func (s *Store) run(text, answers []byte) ([]byte, error) {
 	if s.at == nil {
 		return nil, ErrClosed
 	}
 	var outcome error
-	answers, rest := []byte{}, text
+	rest := text
 	for {
 		status := C.ordup_run(s.at, pointer(rest), C.size_t(len(rest)), &s.taken,
 			pointer(s.room), C.size_t(len(s.room)), &s.written)
@@ -111,14 +118,38 @@ func (s *Store) Run(text []byte) ([]byte, error) {
 
 // Command answers one command, as it is. A refusal is the error, a *Refused.
 func (s *Store) Command(line string) (Answer, error) {
-	outcomes, err := s.Commands(line)
+	if !isCommand(line) {
+		return nil, &BadLine{line}
+	}
+	return s.answer(line)
+}
+
+// answer answers the command of these words.
+func (s *Store) answer(words ...string) (Answer, error) {
+	s.lock.Lock()
+	defer s.lock.Unlock()
+	s.line = append(s.line[:0], words[0]...)
+	for _, word := range words[1:] {
+		s.line = append(append(s.line, ' '), word...)
+	}
+	if len(s.line) > mostBytes {
+		return nil, &BadLine{string(s.line)}
+	}
+	answers, err := s.run(s.line, s.answers[:0])
 	if err != nil {
 		return nil, err
 	}
-	if refused, isRefused := outcomes[0].(*Refused); isRefused {
+	s.answers = answers
+	one, rest, _ := strings.Cut(string(answers), "\n")
+	given, err := answer.Parse(one, "")
+	if err != nil || rest != "" {
+		return nil, &answer.UnknownError{Text: string(answers), Line: string(s.line)}
+	}
+	if refused, isRefused := given.(*Refused); isRefused {
+		refused.Line = string(s.line)
 		return nil, refused
 	}
-	return outcomes[0], nil
+	return given, nil
 }
 
 // Commands answers many commands. A refusal is one of the answers, a *Refused. Where one of the lines would have no answer, or is

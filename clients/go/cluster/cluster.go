@@ -319,6 +319,7 @@ func (c *Cluster) applier(at Site) {
 		if stopping {
 			return
 		}
+		// It is started by Open, whose caller may be gone: Stop rings, and no context ends it.
 		c.sent.waitFor(context.Background(), heard)
 	}
 }
@@ -343,7 +344,7 @@ func (c *Cluster) keeper() {
 	}
 }
 
-// soonIf is a context that ends after a while, or one that does not end.
+// soonIf is a context that ends after a while, or one that does not end. It is of no caller: the goroutines of a cluster end once it stops.
 func soonIf(isSoon bool) (context.Context, context.CancelFunc) {
 	if isSoon {
 		return context.WithTimeout(context.Background(), retry)

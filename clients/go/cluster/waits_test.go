@@ -15,13 +15,13 @@ import (
 	"time"
 )
 
-// own is how many goroutines have a function of this package in their stacks, but for tests.
+// own is how many goroutines are there that Open started.
 func own() int {
 	room := make([]byte, 1<<22)
 	room = room[:runtime.Stack(room, true)]
 	count := 0
 	for _, stack := range strings.Split(string(room), "\n\n") {
-		if strings.Contains(stack, "cluster.(*") {
+		if strings.Contains(stack, "created by ordup.dev/ordup/cluster.open") {
 			count++
 		}
 	}
@@ -280,7 +280,8 @@ func TestNoGoroutineIsLeft(t *testing.T) {
 	comes(t, "two appliers and a keeper run", func() bool { return own() == 3 })
 	_, err = c.Close()
 	isGiven(t, nil, nil, err)
-	isGiven(t, 0, own(), nil)
+	// Close waits until each has said that it ends, which is a moment before it is gone.
+	comes(t, "none is left", func() bool { return own() == 0 })
 	_, err = Open(Setup{})
 	fails(t, ErrEmpty, err)
 	isGiven(t, 0, own(), nil)

@@ -146,6 +146,7 @@ func main() {
 	server := &http.Server{Addr: "127.0.0.1:8080", Handler: s.handler()}
 	ctx, cancel := signal.NotifyContext(context.Background(), os.Interrupt)
 	defer cancel()
+	// ctx has ended then, and requests that are under way are answered all the same.
 	go func() { <-ctx.Done(); server.Shutdown(context.Background()) }()
 	if err := server.ListenAndServe(); err != http.ErrServerClosed {
 		log.Print(err)

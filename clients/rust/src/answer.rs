@@ -114,75 +114,112 @@ pub enum SeriesVerdict {
     Malformed { record: u64, row: u64 },
 }
 
-/// The number that a word is.
-fn number<T: FromStr>(word: &str) -> Option<T> {
-    word.parse().ok()
+/// The words of an answer that are left, or none.
+struct Words<'a>(Option<&'a str>);
+
+impl<'a> Iterator for Words<'a> {
+    type Item = &'a str;
+
+    fn next(&mut self) -> Option<&'a str> {
+        let rest = self.0?;
+        // Words are so short that a look at each byte is the fastest.
+        let end = rest.bytes().position(|byte| byte == b' ');
+        self.0 = end.map(|end| &rest[end + 1..]);
+        Some(end.map_or(rest, |end| &rest[..end]))
+    }
 }
 
-fn texts(words: &[&str]) -> Vec<String> {
-    words.iter().map(|word| word.to_string()).collect()
+impl<'a> Words<'a> {
+    fn of(text: &'a str) -> Words<'a> {
+        Words(Some(text))
+    }
+
+    fn text(&mut self) -> Option<String> {
+        self.next().map(String::from)
+    }
+
+    fn number<T: FromStr>(&mut self) -> Option<T> {
+        self.next()?.parse().ok()
+    }
+
+    /// The number behind this word.
+    fn number_after<T: FromStr>(&mut self, word: &str) -> Option<T> {
+        (self.next()? == word).then_some(())?;
+        self.number()
+    }
+
+    /// What is made of each word that is left.
+    fn all<T>(&mut self, made: impl FnMut(&'a str) -> Option<T>) -> Option<Vec<T>> {
+        self.by_ref().map(made).collect()
+    }
+
+    /// This, if no word is left.
+    fn end<T>(mut self, made: T) -> Option<T> {
+        self.next().is_none().then_some(made)
+    }
 }
 
-fn windows(words: &[&str]) -> Option<Vec<(u64, u64)>> {
-    words.iter().map(|word| word.split_once('-').and_then(|(a, b)| Some((number(a)?, number(b)?)))).collect()
+fn pair<T: FromStr>((a, b): (&str, &str)) -> Option<(T, T)> {
+    Some((a.parse().ok()?, b.parse().ok()?))
 }
 
-fn values(words: &[&str]) -> Option<Vec<(String, i64)>> {
-    words.iter().map(|word| word.split_once('=').and_then(|(x, v)| Some((x.to_string(), number(v)?)))).collect()
+fn value((object, value): (&str, &str)) -> Option<(String, i64)> {
+    Some((object.to_string(), value.parse().ok()?))
 }
 
 impl Answer {
     /// What an answer says, without its line feed. None where the text is no answer.
     pub fn parse(text: &str) -> Option<Result<Answer, Refused>> {
-        let words: Vec<&str> = text.split(' ').collect();
-        match words.as_slice() {
-            ["refused", n, name] => Some(Err(Refused { number: number(n)?, name: name.to_string() })),
-            ["ok", words @ ..] => Answer::of_words(words).map(Ok),
-            _ => None,
-        }
+        let mut words = Words::of(text);
+        let answer = match words.next()? {
+            "refused" => Err(Refused { number: words.number()?, name: words.text()? }),
+            "ok" => Ok(Answer::of(&mut words)?),
+            _ => return None,
+        };
+        words.end(answer)
     }
 
-    fn of_words(words: &[&str]) -> Option<Answer> {
-        Some(match words {
-            [kind @ ("object" | "group" | "site" | "limit"), name] => {
-                Answer::Declared { kind: kind.to_string(), name: name.to_string() }
-            }
-            ["start"] => Answer::Started,
-            ["proposed", k] => Answer::Proposed { place: number(k)? },
-            ["sent", s, k] => Answer::Sent { site: s.to_string(), place: number(k)? },
-            ["applied", s, k] => Answer::Applied { site: s.to_string(), place: number(k)? },
-            ["reported", s, j] => Answer::Reported { site: s.to_string(), applied: number(j)? },
-            ["acked", k] => Answer::Settled(Settled::Acked { place: number(k)? }),
-            ["round", k, sites @ ..] => Answer::Settled(Settled::Round { place: number(k)?, sites: texts(sites) }),
-            ["waiting", k, sites @ ..] => Answer::Settled(Settled::Waiting { place: number(k)?, sites: texts(sites) }),
-            ["begun", q, p] => Answer::Begun { query: q.to_string(), place: number(p)? },
-            ["read", q, x, "value", v, "import", i, "total", t] => Answer::Read(Read {
-                query: q.to_string(),
-                object: x.to_string(),
-                value: number(v)?,
-                imported: number(i)?,
-                total: number(t)?,
+    fn of(words: &mut Words<'_>) -> Option<Answer> {
+        Some(match words.next()? {
+            kind @ ("object" | "group" | "site" | "limit") => Answer::Declared { kind: kind.to_string(), name: words.text()? },
+            "start" => Answer::Started,
+            "proposed" => Answer::Proposed { place: words.number()? },
+            "sent" => Answer::Sent { site: words.text()?, place: words.number()? },
+            "applied" => Answer::Applied { site: words.text()?, place: words.number()? },
+            "reported" => Answer::Reported { site: words.text()?, applied: words.number()? },
+            "acked" => Answer::Settled(Settled::Acked { place: words.number()? }),
+            "round" => Answer::Settled(Settled::Round { place: words.number()?, sites: words.all(|site| Some(site.into()))? }),
+            "waiting" => Answer::Settled(Settled::Waiting { place: words.number()?, sites: words.all(|site| Some(site.into()))? }),
+            "begun" => Answer::Begun { query: words.text()?, place: words.number()? },
+            "read" => Answer::Read(Read {
+                query: words.text()?,
+                object: words.text()?,
+                value: words.number_after("value")?,
+                imported: words.number_after("import")?,
+                total: words.number_after("total")?,
             }),
-            ["end", q, "place", p, "sum", v, "total", t, "reads", n] => Answer::Ended(Ended {
-                query: q.to_string(),
-                place: number(p)?,
-                sum: number(v)?,
-                total: number(t)?,
-                reads: number(n)?,
+            "end" => Answer::Ended(Ended {
+                query: words.text()?,
+                place: words.number_after("place")?,
+                sum: words.number_after("sum")?,
+                total: words.number_after("total")?,
+                reads: words.number_after("reads")?,
             }),
-            ["abandoned", q] => Answer::Abandoned { query: q.to_string() },
-            ["show", s, "sent", a, "applied", b, "reported", c, "rounds", d, rest @ ..] => Answer::Shown(Shown {
-                site: s.to_string(),
-                sent: number(a)?,
-                applied: number(b)?,
-                reported: number(c)?,
-                rounds: number(d)?,
-                values: values(rest)?,
+            "abandoned" => Answer::Abandoned { query: words.text()? },
+            "show" => Answer::Shown(Shown {
+                site: words.text()?,
+                sent: words.number_after("sent")?,
+                applied: words.number_after("applied")?,
+                reported: words.number_after("reported")?,
+                rounds: words.number_after("rounds")?,
+                values: words.all(|word| word.split_once('=').and_then(value))?,
             }),
-            ["certified", s, n, rest @ ..] => {
-                Answer::Certified(Certified { site: s.to_string(), rounds: number(n)?, windows: windows(rest)? })
-            }
-            ["relimit", s, k] => Answer::Relimited { site: s.to_string(), place: number(k)? },
+            "certified" => Answer::Certified(Certified {
+                site: words.text()?,
+                rounds: words.number()?,
+                windows: words.all(|word| word.split_once('-').and_then(pair))?,
+            }),
+            "relimit" => Answer::Relimited { site: words.text()?, place: words.number()? },
             _ => return None,
         })
     }
@@ -191,25 +228,27 @@ impl Answer {
 impl Verdict {
     /// What a verdict says, without its line feed. None where the text is none.
     pub fn parse(text: &str) -> Option<Verdict> {
-        match text.split(' ').collect::<Vec<_>>().as_slice() {
-            ["yes", rounds] => Some(Verdict::Yes { rounds: number(rounds)? }),
-            ["no", row, reason] => Some(Verdict::No { row: number(row)?, reason: reason.to_string() }),
-            ["malformed", row] => Some(Verdict::Malformed { row: number(row)? }),
-            _ => None,
-        }
+        let mut words = Words::of(text);
+        let verdict = match words.next()? {
+            "yes" => Verdict::Yes { rounds: words.number()? },
+            "no" => Verdict::No { row: words.number()?, reason: words.text()? },
+            "malformed" => Verdict::Malformed { row: words.number()? },
+            _ => return None,
+        };
+        words.end(verdict)
     }
 }
 
 impl SeriesVerdict {
     /// What a verdict on a series says, without its line feed. None where the text is none.
     pub fn parse(text: &str) -> Option<SeriesVerdict> {
-        match text.split(' ').collect::<Vec<_>>().as_slice() {
-            ["yes", rounds] => Some(SeriesVerdict::Yes { rounds: number(rounds)? }),
-            ["no", record, row, reason] => {
-                Some(SeriesVerdict::No { record: number(record)?, row: number(row)?, reason: reason.to_string() })
-            }
-            ["malformed", record, row] => Some(SeriesVerdict::Malformed { record: number(record)?, row: number(row)? }),
-            _ => None,
-        }
+        let mut words = Words::of(text);
+        let verdict = match words.next()? {
+            "yes" => SeriesVerdict::Yes { rounds: words.number()? },
+            "no" => SeriesVerdict::No { record: words.number()?, row: words.number()?, reason: words.text()? },
+            "malformed" => SeriesVerdict::Malformed { record: words.number()?, row: words.number()? },
+            _ => return None,
+        };
+        words.end(verdict)
     }
 }

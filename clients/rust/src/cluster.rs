@@ -239,6 +239,7 @@ impl Cluster {
     /// Reads an object at a site, which has applied all that the session has seen. The session has then seen what the site has applied.
     ///
     /// The error is `Behind`, or a refusal: `UnknownSite`, `UnknownObject`.
+    #[inline]
     pub fn read(&self, session: &mut Session, site: SiteId, object: ObjectId) -> Result<Seen, Error> {
         let mut out = Seen::default();
         match self.sys.read(session, site.0, object, &mut out) {

@@ -4,6 +4,7 @@ use crate::answer::{Answer, SeriesVerdict, Verdict};
 use crate::error::{Error, Refused};
 use crate::sys::script::{self, Script, DONE, MALFORMED, MORE, NOT_STARTED, NOT_YET, NO_MEMORY, TOO_LONG, UNKNOWN_SITE, VERSION};
 use std::sync::{Mutex, MutexGuard, PoisonError};
+use std::{mem, str};
 
 /// How many bytes an answer may have at first. There is more room where one is longer.
 const ROOM: usize = 512;
@@ -20,19 +21,24 @@ pub type Outcome = Result<Answer, Refused>;
 /// A store in this process. It is closed when it is dropped.
 ///
 /// It may go from thread to thread. Where several threads call one store, they share a [`SharedStore`].
-pub struct Store(Script);
+pub struct Store {
+    script: Script,
+    /// The line of a command, and its answer: the next ones have their room.
+    line: Vec<u8>,
+    answer: Vec<u8>,
+}
 
 impl Store {
     /// A store before its first line. The error is `NoMemory`, or `Unknown` if the library has another version than this
     /// crate.
     pub fn new() -> Result<Store, Error> {
-        let mut store = Script::none();
+        let mut script = Script::none();
         match script::version() {
             VERSION => {}
             version => return Err(Error::Unknown(version)),
         }
-        match store.open() {
-            DONE => Ok(Store(store)),
+        match script.open() {
+            DONE => Ok(Store { script, line: Vec::new(), answer: Vec::new() }),
             status => Err(fault(status)),
         }
     }
@@ -56,7 +62,7 @@ impl Store {
                 return outcome.and(Err(Error::NoMemory { taken: text.len() - rest.len() }));
             }
             let mut taken = 0;
-            let status = self.0.run(rest, &mut taken, answers);
+            let status = self.script.run(rest, &mut taken, answers);
             rest = &rest[taken..];
             match status {
                 DONE => return outcome,
@@ -79,9 +85,31 @@ impl Store {
     /// # Ok::<(), Error>(())
     /// ```
     pub fn command(&mut self, line: &str) -> Result<Answer, Error> {
-        let mut outcomes = Vec::with_capacity(1);
-        self.commands([line], &mut outcomes)?;
-        Ok(outcomes.remove(0)?)
+        if !is_command(line) {
+            return Err(Error::BadLine(line.to_string()));
+        }
+        self.ask(line, |_| ())
+    }
+
+    /// Answers the command of this word, and of those that are put behind it.
+    pub(crate) fn ask(&mut self, command: &str, put: impl FnOnce(&mut Vec<u8>)) -> Result<Answer, Error> {
+        let (mut line, mut answer) = (mem::take(&mut self.line), mem::take(&mut self.answer));
+        line.clear();
+        line.extend_from_slice(command.as_bytes());
+        put(&mut line);
+        answer.clear();
+        let outcome = self.answered(&line, &mut answer);
+        (self.line, self.answer) = (line, answer);
+        outcome
+    }
+
+    fn answered(&mut self, line: &[u8], answer: &mut Vec<u8>) -> Result<Answer, Error> {
+        if line.len() > MOST_BYTES {
+            return Err(Error::BadLine(String::from_utf8_lossy(line).into_owned()));
+        }
+        self.run(line, answer)?;
+        let text = answer.strip_suffix(b"\n").and_then(|text| str::from_utf8(text).ok());
+        Ok(text.and_then(Answer::parse).ok_or_else(|| Error::BadAnswer(String::from_utf8_lossy(answer).into_owned()))??)
     }
 
     /// Answers many commands, and adds their answers to `outcomes`. A refusal is one of these. Where one of the lines would have no
@@ -114,7 +142,7 @@ impl Store {
     ///
     /// The error is `NotStarted`, `UnknownSite` or `NoMemory`.
     pub fn record(&mut self, site: &str) -> Result<String, Error> {
-        given(65_536, |room, written| self.0.record(site, room, written))
+        given(65_536, |room, written| self.script.record(site, room, written))
     }
 
     /// The declarations of the successor, which begins with what this store ends with, once all updates are acknowledged: as
@@ -122,7 +150,7 @@ impl Store {
     ///
     /// The error is `NotStarted`, `NotYet` or `NoMemory`.
     pub fn next_declarations(&mut self) -> Result<String, Error> {
-        given(65_536, |room, written| self.0.next(room, written))
+        given(65_536, |room, written| self.script.next(room, written))
     }
 }
 

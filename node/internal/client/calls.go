@@ -23,6 +23,11 @@ func (c *Client) Next(ctx context.Context, next wire.Next) (wire.Begun, error) {
 	return posted[wire.Begun](ctx, c, wire.NextPath+waiting(waitIn(ctx)), next)
 }
 
+// Relimit asks for another limit of a site until there is an answer, or the context ends. What the store refuses is a *wire.Error.
+func (c *Client) Relimit(ctx context.Context, relimit wire.Relimit) (wire.Limited, error) {
+	return posted[wire.Limited](ctx, c, wire.LimitPath+waiting(waitIn(ctx)), relimit)
+}
+
 // Epoch asks for the epoch.
 func (c *Client) Epoch(ctx context.Context) (wire.Begun, error) {
 	return got[wire.Begun](ctx, c, wire.EpochPath)

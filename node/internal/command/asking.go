@@ -47,7 +47,7 @@ func (a *askingSettings) client(log *logs.Log) (*client.Client, error) {
 	if len(a.addresses) == 0 {
 		return nil, wrong("%s: the addresses are missing", a.key)
 	}
-	config.TLS, err = engine.TLSOf(a.authority, "", "", log)
+	config.TLS, err = engine.TLSOf(a.authority, nil)
 	if err != nil {
 		return nil, fmt.Errorf("authority: %w", err)
 	}
@@ -161,7 +161,7 @@ func nextSettings(program *Program, set *settings.Set) func(context.Context, []s
 		if next.From == 0 {
 			now, err := asker.Epoch(ctx)
 			if err != nil {
-				return err
+				return fmt.Errorf("ask which epoch there is: %w", err)
 			}
 			next.From = now.Epoch
 		}
@@ -170,6 +170,32 @@ func nextSettings(program *Program, set *settings.Set) func(context.Context, []s
 			return err
 		}
 		fmt.Fprintf(program.Out, "epoch %d\n", begun.Epoch)
+		return nil
+	})
+}
+
+func relimitSettings(program *Program, set *settings.Set) func(context.Context, []string) error {
+	own := &askingSettings{}
+	own.add(set, "primaries", "`ADDRESS,..` of the primaries, as http://10.0.0.1:7002")
+	own.addPatience(set)
+	return own.asks(program.Log, func(ctx context.Context, asker *client.Client, words []string) error {
+		if len(words) < 2 {
+			return wrong("say a site and a limit, as far count 3")
+		}
+		limit, err := script.ParseLimit(strings.Join(words[1:], " "))
+		if err != nil {
+			return exit.With(exit.Words, err)
+		}
+		limited, err := asker.Relimit(ctx, wire.Relimit{Site: words[0], Limit: limit.String()})
+		var told *wire.Error
+		switch {
+		case errors.As(err, &told) && told.Name == wire.Refused:
+			fmt.Fprintln(program.Out, script.Refusal{Number: told.Refused, Name: told.Refusal})
+			return nil
+		case err != nil:
+			return err
+		}
+		fmt.Fprintf(program.Out, "ok relimit %s %d epoch %d\n", limited.Site, limited.Place, limited.Epoch)
 		return nil
 	})
 }

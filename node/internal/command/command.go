@@ -18,6 +18,8 @@ import (
 type Program struct {
 	// Versions are the versions of ordup whose answers the stores give. The first one is that of the program.
 	Versions []string
+	// Build tells it apart from others of a version that was not released, or is empty.
+	Build string
 	// Open gives stores, and Checker checks their records.
 	Open    store.Open
 	Checker store.Checker
@@ -42,11 +44,22 @@ func commands() []command {
 		{"update", "CLIENT NUMBER CHANGE..", "asks for an update, and prints its answer", updateSettings},
 		{"value", "[OBJECT]", "reads a value at a site, or all", valueSettings},
 		{"next", "[DECLARATIONS]", "asks for the next epoch, of a file with other declarations or as it is, and waits until it has begun", nextSettings},
+		{"relimit", "SITE LIMIT", "gives a site a limit in place of the one that it has: count 3, all 3, object NAME 3 or group NAME 3, or none for 3", relimitSettings},
 		{"fsck", "FOLDER..", "checks the archives of hosts, and the script if it is told the engine", fsckSettings},
+		{"prune", "FOLDER", "deletes archives of old epochs from a folder, once all is checked and a copy of each is seen", pruneSettings},
+		{"check-settings", "[FILE]", "checks a file with settings and what it names, and starts nothing", checkSettings},
 	}
 }
 
 func (p *Program) version() string { return p.Versions[0] }
+
+// name is the version, and the build where others may have this version too.
+func (p *Program) name() string {
+	if p.Build == "" {
+		return p.version()
+	}
+	return fmt.Sprintf("%s (build %s)", p.version(), p.Build)
+}
 
 // Run does what the words say, until the context ends, and returns the status.
 func (p *Program) Run(ctx context.Context, words []string) exit.Status {
@@ -56,7 +69,7 @@ func (p *Program) Run(ctx context.Context, words []string) exit.Status {
 	}
 	switch name {
 	case "--version", "version":
-		fmt.Fprintln(p.Out, "ordup-node", p.version())
+		fmt.Fprintln(p.Out, "ordup-node", p.name())
 		return exit.Done
 	case "--help", "-h", "help":
 		p.help(p.Out)
@@ -108,7 +121,7 @@ func (p *Program) isKnown(key string) bool {
 func (p *Program) help(to io.Writer) {
 	fmt.Fprint(to, "usage: ordup-node COMMAND [--SETTING VALUE].. [WORD..]\n\n")
 	for _, each := range commands() {
-		fmt.Fprintf(to, "  %-8s %-23s %s\n", each.name, each.words, each.help)
+		fmt.Fprintf(to, "  %-14s %-23s %s\n", each.name, each.words, each.help)
 	}
 	fmt.Fprint(to, "\nordup-node COMMAND --help has the settings of a command. Each may stand in a file too, as SETTING = VALUE.\n")
 }

@@ -135,6 +135,8 @@ func TestWordsAndSettingsThatAreWrongAreNamed(t *testing.T) {
 		{1, "there is no answer yet", "update --primaries http://127.0.0.1:1 --patience 0.2 ann 1 add:tea:1"},
 		{1, "there is no answer yet", "value --sites http://127.0.0.1:1 --patience 0.2"},
 		{2, "/nowhere", "next --primaries http://127.0.0.1:1 /nowhere"},
+		{2, "say a site and a limit", "relimit --primaries http://127.0.0.1:1 far"},
+		{2, "is no limit", "relimit --primaries http://127.0.0.1:1 far count"},
 		{2, "say the folders", "fsck"},
 		{2, "there is no archive", "fsck /nowhere"},
 	} {
@@ -225,6 +227,8 @@ func TestADeploymentFromItsBeginningToItsEnd(t *testing.T) {
 	deployment.is(1, "the site is at place 1 of epoch 1", "value", "--seen", "1.2", "--wait", "0.1")
 	deployment.is(0, "epoch 2\n", "next")
 	deployment.is(1, "has not begun", "next", "--from", "7")
+	deployment.is(0, "ok relimit far 1 epoch 2\n", "relimit", "far", "count", "7")
+	deployment.is(0, "refused 8 UnknownSite\n", "relimit", "nowhere", "count", "none")
 	deployment.is(2, "no declaration", "next", file(t, "bad", "\xff\n"))
 	deployment.is(0, "epoch 3\n", "next", file(t, "without", strings.Replace(shop, "site far 1\n", "", 1)))
 	if status, log := deployment.ended("east"); status != exit.NotInScript || !strings.Contains(log, "has no site far") {
@@ -273,14 +277,19 @@ func (d *deployment) ended(name string) (exit.Status, string) {
 	return d.stops[name]()
 }
 
-// certificate writes a certificate for this computer, which is its own authority, and its key.
+// certificate writes a certificate for this computer, which is its own authority and good for an hour, and its key.
 func certificate(t *testing.T) (string, string) {
+	t.Helper()
+	return certificateFor(t, time.Hour)
+}
+
+func certificateFor(t *testing.T, valid time.Duration) (string, string) {
 	t.Helper()
 	key, err := ecdsa.GenerateKey(elliptic.P256(), rand.Reader)
 	if err != nil {
 		t.Fatal(err)
 	}
-	form := &x509.Certificate{SerialNumber: big.NewInt(1), Subject: pkix.Name{CommonName: "test"}, NotAfter: time.Now().Add(time.Hour),
+	form := &x509.Certificate{SerialNumber: big.NewInt(1), Subject: pkix.Name{CommonName: "test"}, NotAfter: time.Now().Add(valid),
 		IPAddresses: []net.IP{net.ParseIP("127.0.0.1")}, IsCA: true, BasicConstraintsValid: true, KeyUsage: x509.KeyUsageCertSign | x509.KeyUsageDigitalSignature,
 		ExtKeyUsage: []x509.ExtKeyUsage{x509.ExtKeyUsageServerAuth, x509.ExtKeyUsageClientAuth}}
 	signed, err := x509.CreateCertificate(rand.Reader, form, form, key.Public(), key)

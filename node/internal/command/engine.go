@@ -9,6 +9,7 @@ import (
 	"ordup.dev/node/internal/engine"
 	"ordup.dev/node/internal/exit"
 	"ordup.dev/node/internal/logs"
+	"ordup.dev/node/internal/reload"
 	"ordup.dev/node/internal/settings"
 )
 
@@ -17,6 +18,8 @@ type engineSettings struct {
 	members                     []string
 	authority, certificate, key string
 	user, password              string
+	// shown is what a member is shown that asks for a certificate, or nil.
+	shown *reload.Certificate
 }
 
 func (e *engineSettings) add(set *settings.Set) {
@@ -26,6 +29,16 @@ func (e *engineSettings) add(set *settings.Set) {
 	set.Text(&e.key, "engine-key", "", "`FILE` in PEM with the key of this certificate")
 	set.Text(&e.user, "engine-user", "", "`NAME` of the user of etcd")
 	set.Text(&e.password, "engine-password", "", "`FILE` with the password of this user")
+}
+
+func (e *engineSettings) secure(log *logs.Log, config *engine.Config) (err error) {
+	if e.certificate != "" || e.key != "" {
+		if e.shown, err = reload.Pair(e.certificate, e.key, log); err != nil {
+			return err
+		}
+	}
+	config.TLS, err = engine.TLSOf(e.authority, e.shown)
+	return err
 }
 
 func (e *engineSettings) open(log *logs.Log) (*engine.Engine, error) {
@@ -45,11 +58,9 @@ func (e *engineSettings) open(log *logs.Log) (*engine.Engine, error) {
 		return nil, wrong("engine-user and engine-password belong together")
 	}
 	config := engine.Config{Members: e.members, User: e.user}
-	secure, err := engine.TLSOf(e.authority, e.certificate, e.key, log)
-	if err != nil {
+	if err := e.secure(log, &config); err != nil {
 		return nil, exit.With(exit.Environment, fmt.Errorf("engine: %w", err))
 	}
-	config.TLS = secure
 	if e.password != "" {
 		text, err := os.ReadFile(e.password)
 		if err != nil {

@@ -7,11 +7,16 @@ import (
 
 	"ordup.dev/node/internal/engine"
 	"ordup.dev/node/internal/etcdtest"
+	"ordup.dev/node/internal/reload"
 )
 
 func TestTheEngineHasTLSAndUsers(t *testing.T) {
 	own, key := certificate(t)
-	secure, err := engine.TLSOf(own, own, key, nil)
+	pair, err := reload.Pair(own, key, nil)
+	if err != nil {
+		t.Fatal(err)
+	}
+	secure, err := engine.TLSOf(own, pair)
 	if err != nil {
 		t.Fatal(err)
 	}

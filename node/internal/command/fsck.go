@@ -11,7 +11,7 @@ import (
 func fsckSettings(program *Program, set *settings.Set) func(context.Context, []string) error {
 	own, from := &engineSettings{}, int64(0)
 	own.add(set)
-	set.Number(&from, "from", 1, 1, 1<<53, "`EPOCH` of the first archive")
+	set.Number(&from, "from", 0, 0, 1<<53, "`EPOCH` of the first archive: 0 stands for 1, or the first that prune left")
 	return func(ctx context.Context, folders []string) error {
 		if len(folders) == 0 && len(own.members) == 0 {
 			return wrong("say the folders with archives, or the engine")

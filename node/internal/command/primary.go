@@ -81,16 +81,17 @@ func (p *primaryOwn) run(ctx context.Context, program *Program) error {
 	if err != nil {
 		return err
 	}
-	secure, err := engine.TLSOf(p.authority, "", "", program.Log)
+	secure, err := engine.TLSOf(p.authority, nil)
 	if err != nil {
 		return fmt.Errorf("authority: %w", err)
 	}
 	lag := &numbers.Lag{}
 	seen := numbers.OfPrimary(program.version(), p.serving.open, process.Status)
+	seen.Shows(certificates(&p.serving, &p.engine))
 	handler := serve.NewPrimary(serve.Config{Guard: &p.serving.guard, Requests: p.serving.mostRequests(),
 		Ready: func() error { return isReady(process.Status()) }, Numbers: seen.Handler(),
 		Page: numbers.PageOfPrimary(config.Host, lag, process.Status)}, process, serve.NewPasser(config.Address, secure), seen.Waited)
-	program.Log.Info("starts", "command", "primary", "version", program.version(), "host", config.Host, "address", config.Address)
+	program.Log.Info("starts", "command", "primary", "version", program.name(), "host", config.Host, "address", config.Address)
 	return p.serving.run(ctx, program.Log, handler, func(ctx context.Context) error {
 		go lag.Run(ctx, process.Status)
 		return process.Run(ctx)

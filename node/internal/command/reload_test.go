@@ -3,7 +3,10 @@ package command_test
 import (
 	"context"
 	"crypto/tls"
+	"crypto/x509"
+	"encoding/pem"
 	"fmt"
+	"io"
 	"net/http"
 	"os"
 	"strings"
@@ -14,10 +17,12 @@ import (
 	"ordup.dev/node/internal/exit"
 )
 
-// A process that goes on takes another certificate and other tokens from its files. With a broken file it keeps what it has.
+// A process that goes on takes another certificate and other tokens from its files, and tells when each certificate expires that it shows.
+// With a broken file it keeps what it has.
 func TestCertificatesAndTokensAreReadAgain(t *testing.T) {
 	own, key := certificate(t)
-	other, otherKey := certificate(t)
+	other, otherKey := certificateFor(t, 30*time.Hour)
+	forEngine, keyForEngine := certificateFor(t, 50*time.Hour)
 	tokens, address := file(t, "tokens", "operator-token-1\n"), etcdtest.FreePort(t)
 	ctx, cancel := context.WithCancel(context.Background())
 	defer cancel()
@@ -27,10 +32,12 @@ func TestCertificatesAndTokensAreReadAgain(t *testing.T) {
 	}
 	ended := make(chan end, 1)
 	go func() {
-		status, _, log := run(ctx, "fleet", "--fleet", "far", "--members", "east", "--listen", address, "--primaries", "http://127.0.0.1:1", "--engine", "http://127.0.0.1:1",
+		status, _, log := run(ctx, "fleet", "--fleet", "far", "--members", "east", "--listen", address, "--primaries", "http://127.0.0.1:1", "--engine", "https://127.0.0.1:1",
+			"--engine-certificate", forEngine, "--engine-key", keyForEngine,
 			"--certificate", own, "--key", key, "--operator-tokens", tokens)
 		ended <- end{status, log}
 	}()
+	numbers := ""
 	look := func(token string) (serial string, status int) {
 		asker := &http.Client{Transport: &http.Transport{TLSClientConfig: &tls.Config{InsecureSkipVerify: true}, DisableKeepAlives: true}}
 		request, _ := http.NewRequest("GET", "https://"+address+"/metrics", nil)
@@ -40,6 +47,8 @@ func TestCertificatesAndTokensAreReadAgain(t *testing.T) {
 			return err.Error(), 0
 		}
 		defer answer.Body.Close()
+		text, _ := io.ReadAll(answer.Body)
+		numbers = string(text)
 		return fmt.Sprintf("%x", answer.TLS.PeerCertificates[0].Signature), answer.StatusCode
 	}
 	becomes := func(what, token string, isSo func(serial string, status int) bool) {
@@ -68,6 +77,17 @@ func TestCertificatesAndTokensAreReadAgain(t *testing.T) {
 	}
 	becomes("it listens", "operator-token-1", func(_ string, status int) bool { return status == 200 })
 	first, _ := look("operator-token-1")
+	expires := func(shown, of string) {
+		t.Helper()
+		// In float64, as Prometheus has it, ten digits are written with an exponent.
+		if says := fmt.Sprintf("ordup_certificate_expiry_timestamp_seconds{file=%q} %v\n", shown, float64(expiryOf(t, of))); !strings.Contains(numbers, says) {
+			t.Errorf("there is no %q in %s", says, numbers)
+		}
+	}
+	expires(own, own)
+	expires(forEngine, forEngine)
+	before := file(t, "before", "")
+	put(own, before)
 	put(file(t, "more", "operator-token-1\noperator-token-2\n"), tokens)
 	becomes("a new token", "operator-token-2", func(_ string, status int) bool { return status == 200 })
 	put(file(t, "broken", "short\n"), tokens)
@@ -76,9 +96,11 @@ func TestCertificatesAndTokensAreReadAgain(t *testing.T) {
 	if serial, status := look("operator-token-1"); serial != first || status != 200 {
 		t.Errorf("%.20s %d", serial, status)
 	}
+	expires(own, before)
 	put(file(t, "less", "operator-token-2\n"), tokens)
 	put(otherKey, key)
 	becomes("a new certificate", "operator-token-2", func(serial string, status int) bool { return serial != first && status == 200 })
+	expires(own, other)
 	becomes("an old token", "operator-token-1", func(_ string, status int) bool { return status == 401 })
 	cancel()
 	was := <-ended
@@ -87,4 +109,19 @@ func TestCertificatesAndTokensAreReadAgain(t *testing.T) {
 			t.Errorf("%d: there is no %q in %s", was.status, say, was.log)
 		}
 	}
+}
+
+// expiryOf is when the certificate of a file expires.
+func expiryOf(t *testing.T, file string) int64 {
+	t.Helper()
+	text, err := os.ReadFile(file)
+	if err != nil {
+		t.Fatal(err)
+	}
+	block, _ := pem.Decode(text)
+	read, err := x509.ParseCertificate(block.Bytes)
+	if err != nil {
+		t.Fatal(err)
+	}
+	return read.NotAfter.Unix()
 }

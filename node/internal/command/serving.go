@@ -38,7 +38,9 @@ type servingSettings struct {
 	// listener is where a trial listens for the process. Others have none, and listen at `listen`.
 	listener net.Listener
 	server   atomic.Pointer[listen.Server]
-	guard    serve.Guard
+	// shown is the certificate of this process, or nil.
+	shown *reload.Certificate
+	guard serve.Guard
 }
 
 func (s *servingSettings) add(set *settings.Set, usual string) {
@@ -57,16 +59,29 @@ func (s *servingSettings) add(set *settings.Set, usual string) {
 // isSecure is whether the process listens with TLS.
 func (s *servingSettings) isSecure() bool { return s.certificate != "" || s.key != "" }
 
-func (s *servingSettings) secure(log *logs.Log) (*tls.Config, error) {
+func (s *servingSettings) secure(log *logs.Log) (config *tls.Config, err error) {
 	if !s.isSecure() {
 		return nil, nil
 	}
-	pair, err := reload.Pair(s.certificate, s.key, log)
-	if err != nil {
+	if s.shown, err = reload.Pair(s.certificate, s.key, log); err != nil {
 		return nil, fmt.Errorf("certificate and key: %w", err)
 	}
 	return &tls.Config{MinVersion: tls.VersionTLS12,
-		GetCertificate: func(*tls.ClientHelloInfo) (*tls.Certificate, error) { return pair.Now(), nil }}, nil
+		GetCertificate: func(*tls.ClientHelloInfo) (*tls.Certificate, error) { return s.shown.Now(), nil }}, nil
+}
+
+// certificates gives until when those are good that the process shows to who asks it and to the engine, by their files. It is asked once
+// the process listens.
+func certificates(serving *servingSettings, engine *engineSettings) func() map[string]time.Time {
+	return func() map[string]time.Time {
+		until := map[string]time.Time{}
+		for _, shown := range []*reload.Certificate{serving.shown, engine.shown} {
+			if shown != nil {
+				until[shown.File] = shown.Expires()
+			}
+		}
+		return until
+	}
 }
 
 // check looks at the settings, before the process does anything.
@@ -153,7 +168,13 @@ func (s *servingSettings) run(ctx context.Context, log *logs.Log, handler serve.
 	defer stop()
 	ended := make(chan error, 1)
 	go func() { ended <- run(running) }()
-	go func() { <-running.Done(); handler.End(); tellSystemd("STOPPING=1") }()
+	told := make(chan struct{})
+	go func() {
+		defer close(told)
+		<-running.Done()
+		handler.End()
+		tellSystemd("STOPPING=1")
+	}()
 	go goOn(running, handler.Look)
 	tellSystemd("READY=1")
 	select {
@@ -163,6 +184,8 @@ func (s *servingSettings) run(ctx context.Context, log *logs.Log, handler serve.
 		<-ended
 		err = fmt.Errorf("it cannot listen any more: %w", failure)
 	}
+	stop()
+	<-told
 	server.Stop(answersTime)
 	if err == nil {
 		log.Info("ended")

@@ -66,6 +66,7 @@ func (s *siteOwn) run(ctx context.Context, program *Program) error {
 		return err
 	}
 	seen := numbers.OfSite(program.version(), s.name, s.serving.open, process.Status)
+	seen.Shows(certificates(&s.serving, &s.engine))
 	handler := serve.NewSite(serve.Config{Guard: &s.serving.guard, Requests: s.serving.mostRequests(),
 		Ready: func() error {
 			if !process.Status().Serves {
@@ -73,7 +74,7 @@ func (s *siteOwn) run(ctx context.Context, program *Program) error {
 			}
 			return nil
 		}, Numbers: seen.Handler(), Page: numbers.PageOfSite(s.name, process.Status)}, s.name, process)
-	program.Log.Info("starts", "command", "site", "version", program.version(), "host", config.Host, "site", s.name)
+	program.Log.Info("starts", "command", "site", "version", program.name(), "host", config.Host, "site", s.name)
 	return s.serving.run(ctx, program.Log, handler, process.Run)
 }
 
@@ -88,18 +89,20 @@ type fleetOwn struct {
 
 func fleetSettings(program *Program, set *settings.Set) func(context.Context, []string) error {
 	own := &fleetOwn{}
-	own.engine.add(set)
-	own.serving.add(set, "127.0.0.1:7003")
-	own.telling.add(set, "primaries", "`ADDRESS,..` of the primaries, as http://10.0.0.1:7002")
-	set.Text(&own.name, "fleet", "", "`NAME` of the fleet in the script")
-	set.List(&own.members, "members", "`NAME,..` of its sites")
+	own.add(set)
 	return func(ctx context.Context, _ []string) error { return own.run(ctx, program) }
 }
 
-func (f *fleetOwn) run(ctx context.Context, program *Program) error {
-	if err := f.serving.check(program.Log); err != nil {
-		return err
-	}
+func (f *fleetOwn) add(set *settings.Set) {
+	f.engine.add(set)
+	f.serving.add(set, "127.0.0.1:7003")
+	f.telling.add(set, "primaries", "`ADDRESS,..` of the primaries, as http://10.0.0.1:7002")
+	set.Text(&f.name, "fleet", "", "`NAME` of the fleet in the script")
+	set.List(&f.members, "members", "`NAME,..` of its sites")
+}
+
+// check looks at the names of the fleet and of its sites.
+func (f *fleetOwn) check() error {
 	for _, name := range append([]string{f.name}, f.members...) {
 		if !script.IsName(name) {
 			return wrong("fleet and members: %.40q is no name of a site", name)
@@ -113,6 +116,16 @@ func (f *fleetOwn) run(ctx context.Context, program *Program) error {
 			return wrong("members: the site %s has the name of its fleet", name)
 		}
 	}
+	return nil
+}
+
+func (f *fleetOwn) run(ctx context.Context, program *Program) error {
+	if err := f.serving.check(program.Log); err != nil {
+		return err
+	}
+	if err := f.check(); err != nil {
+		return err
+	}
 	teller, err := f.telling.client(program.Log)
 	if err != nil {
 		return err
@@ -124,10 +137,11 @@ func (f *fleetOwn) run(ctx context.Context, program *Program) error {
 	defer keys.Close()
 	process := fleet.New(f.name, f.members, teller)
 	seen := numbers.OfFleet(program.version(), f.serving.open, process.Status)
+	seen.Shows(certificates(&f.serving, &f.engine))
 	handler := serve.NewFleet(serve.Config{Guard: &f.serving.guard, Requests: f.serving.mostRequests(),
 		Ready: func() error { return haveTold(process.Status()) }, Numbers: seen.Handler(),
 		Page: numbers.PageOfFleet(f.name, process.Status)}, process)
-	program.Log.Info("starts", "command", "fleet", "version", program.version(), "host", f.serving.host, "fleet", f.name)
+	program.Log.Info("starts", "command", "fleet", "version", program.name(), "host", f.serving.host, "fleet", f.name)
 	return f.serving.run(ctx, program.Log, handler, func(ctx context.Context) error { return process.Run(ctx, keys, program.Log) })
 }
 

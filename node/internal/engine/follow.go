@@ -3,6 +3,7 @@ package engine
 import (
 	"context"
 	"errors"
+	"fmt"
 	"time"
 
 	"go.etcd.io/etcd/clientv3"
@@ -49,7 +50,7 @@ func (e *Engine) Follow(ctx context.Context, from int64, take func([]Raw) error)
 func (e *Engine) watch(ctx context.Context, next *int64, revision int64, takes func([]Raw) error) error {
 	client, member, err := e.connected()
 	if err != nil {
-		return errorOf(member, err)
+		return fmt.Errorf("watch the script: %w", errorOf(member, err))
 	}
 	watching, cancel := context.WithCancel(clientv3.WithRequireLeader(ctx))
 	defer cancel()
@@ -75,7 +76,7 @@ func (e *Engine) watch(ctx context.Context, next *int64, revision int64, takes f
 		case <-look.C:
 			last, err := e.Last(ctx, *next)
 			if err != nil {
-				return err
+				return fmt.Errorf("look for entries from %d on: %w", *next, err)
 			}
 			looks++
 			if last < *next {
@@ -91,12 +92,12 @@ func (e *Engine) watchEnded(ctx context.Context, client *clientv3.Client, member
 		return ctx.Err()
 	}
 	if err == nil {
-		err = errors.New("a watch ended")
+		err = errors.New("it ended")
 	}
 	if err = errorOf(member, err); IsAway(err) {
 		e.leave(client)
 	}
-	return err
+	return fmt.Errorf("watch the script: %w", err)
 }
 
 func putsOf(events []*clientv3.Event) []Raw {

@@ -2,6 +2,7 @@ package engine
 
 import (
 	"context"
+	"fmt"
 	"sync"
 	"time"
 
@@ -160,10 +161,10 @@ func (l *Lease) do(ctx context.Context, step lease.Step) (err error) {
 	return err
 }
 
-// failed notes that a call has no answer, and returns why.
-func (l *Lease) failed(err error) error {
+// failed notes that a call has no answer, and returns what it was for and why.
+func (l *Lease) failed(doing string, err error) error {
 	l.note(func(state *lease.Key) { state.Failed() })
-	return err
+	return fmt.Errorf("%s: %w", doing, err)
 }
 
 // renew renews the lease, and looks whether its key is still there.
@@ -188,7 +189,7 @@ func (l *Lease) renew(ctx context.Context, id lease.ID) error {
 		return err
 	})
 	if err != nil {
-		return l.failed(err)
+		return l.failed("renew the lease", err)
 	}
 	l.note(func(state *lease.Key) { err = state.Renewed(isKept, found) })
 	return err
@@ -221,7 +222,7 @@ func (l *Lease) find(ctx context.Context) error {
 		return err
 	})
 	if err != nil {
-		return l.failed(err)
+		return l.failed("look for the key", err)
 	}
 	if found.Excludes != "" {
 		clock.Pause(ctx, lookAfter)
@@ -248,7 +249,7 @@ func (l *Lease) create(ctx context.Context) error {
 		return err
 	})
 	if err != nil {
-		return l.failed(err)
+		return l.failed("create the key", err)
 	}
 	l.note(func(state *lease.Key) { state.Created(lease.ID(id), isOurs) })
 	return nil
@@ -267,7 +268,7 @@ func (l *Lease) begin(ctx context.Context, term Term) (err error) {
 func (l *Lease) awaitEnd(ctx context.Context, revision int64) error {
 	client, _, err := l.engine.connected()
 	if err != nil {
-		return err
+		return fmt.Errorf("watch the key: %w", err)
 	}
 	watching, cancel := context.WithTimeout(clientv3.WithRequireLeader(ctx), lookAfter)
 	defer cancel()

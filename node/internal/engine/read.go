@@ -2,6 +2,7 @@ package engine
 
 import (
 	"context"
+	"fmt"
 	"time"
 
 	"go.etcd.io/etcd/clientv3"
@@ -83,6 +84,9 @@ func (e *Engine) ReadAll(ctx context.Context, from int64, take func([]Raw) error
 		defer close(pages)
 		for read := (page{more: true}); read.more && read.err == nil; {
 			read.entries, read.more, read.revision, read.err = e.Entries(reading, from, 0)
+			if read.err != nil {
+				read.err = fmt.Errorf("read the script from the entry %d on: %w", from, read.err)
+			}
 			if count := len(read.entries); count > 0 {
 				from = read.entries[count-1].Number + 1
 			}

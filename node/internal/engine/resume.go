@@ -72,7 +72,7 @@ func (e *Engine) WhyGap(ctx context.Context, number int64, fault error) error {
 	_, first, err := e.Epoch(ctx)
 	switch {
 	case err != nil:
-		return err
+		return fmt.Errorf("look why the entry %d does not come: %w", number, err)
 	case first > number:
 		return ErrLaterEpoch
 	}

@@ -17,6 +17,7 @@ import (
 
 	"ordup.dev/node/internal/engine"
 	"ordup.dev/node/internal/etcdtest"
+	"ordup.dev/node/internal/reload"
 )
 
 // certificate makes files of a certificate that signs itself, for this computer, and its key.
@@ -39,7 +40,9 @@ func certificate(t *testing.T) (certificate, key string) {
 
 func TestMembersWithTLSAndUsers(t *testing.T) {
 	file, key := certificate(t)
-	secure, err := engine.TLSOf(file, file, key, nil)
+	own, err := reload.Pair(file, key, nil)
+	is(t, nil, err)
+	secure, err := engine.TLSOf(file, own)
 	is(t, nil, err)
 	members := etcdtest.StartSecure(t, 1, engine.Config{TLS: secure}, "--cert-file", file, "--key-file", key, "--trusted-ca-file", file,
 		"--client-cert-auth")
@@ -69,18 +72,21 @@ func TestMembersWithTLSAndUsers(t *testing.T) {
 	is(t, true, errors.As(err, &wrong))
 	_, _, err = open(func(config *engine.Config) { config.User = "guest" }).Epoch(ctx)
 	is(t, true, errors.As(err, &wrong))
-	_, _, err = open(func(config *engine.Config) { config.TLS, _ = engine.TLSOf(file, "", "", nil) }).Epoch(ctx)
+	_, _, err = open(func(config *engine.Config) { config.TLS, _ = engine.TLSOf(file, nil) }).Epoch(ctx)
 	is(t, true, engine.IsAway(err))
 }
 
 func TestTLSOfFiles(t *testing.T) {
 	file, key := certificate(t)
-	none, err := engine.TLSOf("", "", "", nil)
+	none, err := engine.TLSOf("", nil)
 	is(t, []any{true, nil}, []any{none == nil, err})
-	for _, names := range [][3]string{{"/nowhere", "", ""}, {key, "", ""}, {file, file, ""}, {"", file, file}, {file, "/nowhere", key}} {
-		if _, err := engine.TLSOf(names[0], names[1], names[2], nil); err == nil {
-			t.Errorf("%v is taken", names)
+	for _, authority := range []string{"/nowhere", key} {
+		if _, err := engine.TLSOf(authority, nil); err == nil {
+			t.Errorf("%s is taken", authority)
 		}
+	}
+	if secure, err := engine.TLSOf(file, nil); err != nil || secure.GetClientCertificate != nil {
+		t.Error(err, secure)
 	}
 }
 

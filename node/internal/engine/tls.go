@@ -6,14 +6,13 @@ import (
 	"fmt"
 	"os"
 
-	"ordup.dev/node/internal/logs"
 	"ordup.dev/node/internal/reload"
 )
 
-// TLSOf gives the TLS of a Config by files in PEM: the authority that the certificates of the members are of, and the certificate and
-// the key of this process, where the members ask for one. These two are read again when they change. Without a name it is none.
-func TLSOf(authority, certificate, key string, log *logs.Log) (*tls.Config, error) {
-	if authority == "" && certificate == "" && key == "" {
+// TLSOf gives the TLS of a Config: by a file in PEM with the authority that the certificates of the members are of, and by the certificate
+// of this process, where the members ask for one. Without both it is none.
+func TLSOf(authority string, own *reload.Certificate) (*tls.Config, error) {
+	if authority == "" && own == nil {
 		return nil, nil
 	}
 	config := &tls.Config{MinVersion: tls.VersionTLS12}
@@ -27,12 +26,8 @@ func TLSOf(authority, certificate, key string, log *logs.Log) (*tls.Config, erro
 			return nil, fmt.Errorf("%s has no certificate", authority)
 		}
 	}
-	if certificate != "" || key != "" {
-		pair, err := reload.Pair(certificate, key, log)
-		if err != nil {
-			return nil, err
-		}
-		config.GetClientCertificate = func(*tls.CertificateRequestInfo) (*tls.Certificate, error) { return pair.Now(), nil }
+	if own != nil {
+		config.GetClientCertificate = func(*tls.CertificateRequestInfo) (*tls.Certificate, error) { return own.Now(), nil }
 	}
 	return config, nil
 }

@@ -165,7 +165,7 @@ func (c *Core) add(steps []script.Step) error {
 
 // sizeOf is at least how many bytes the line of a step has.
 func sizeOf(step *script.Step) int {
-	size := 64 + len(step.Client) + len(step.Site) + len(step.Digest) + len(step.Words)
+	size := 64 + len(step.Client) + len(step.Site) + len(step.Digest) + len(step.Words) + len(step.Limit.Scope)
 	if step.Kind == script.Answered {
 		size += answerBytes
 	}

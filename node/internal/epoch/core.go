@@ -34,6 +34,9 @@ type Core struct {
 	first, begun int64
 	store        store.Store
 	clients      clients
+	// The objects of the epoch, and its groups with their members.
+	objects []string
+	groups  map[string][]string
 	// Who waits for the updates that are not acknowledged.
 	waiting queue
 	// The sites that the head waits for, and since when.
@@ -102,9 +105,10 @@ type VersionError struct {
 
 func (e *VersionError) Error() string {
 	if e.Number == 0 {
-		return fmt.Sprintf("the next epoch cannot be run by ordup %s: this program has %v", e.Version, e.Supported)
+		return fmt.Sprintf("the next epoch cannot be run by ordup %s: this program has %v; upgrade the primaries first", e.Version, e.Supported)
 	}
-	return fmt.Sprintf("the entry %d is run by ordup %s, and this program has %v", e.Number, e.Version, e.Supported)
+	return fmt.Sprintf("the entry %d is run by ordup %s, and this program has %v: take one that has %s; a deployment goes back "+
+		"to an older one by `ordup-node next --ordup VERSION`", e.Number, e.Version, e.Supported, e.Version)
 }
 
 // ExitStatus is that of a process which meets it.

@@ -8,6 +8,7 @@
 // At the end of the script a primary may write:
 //
 //	replies, err := core.Ask(requests, now)   what clients ask goes into the open batch, or has its answer, or waits
+//	limited, err := core.AskLimit(limit, now)   a limit of a site is changed, or the store refuses it
 //	err = core.Tell(place, now)                what a site has shown
 //	again, err := core.Work(now)               adds what sites told, and asks for acknowledgements
 //	batch, err := core.Seal(now)                the open batch as an entry, or nil where there is nothing to write

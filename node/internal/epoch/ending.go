@@ -372,6 +372,7 @@ func (c *Core) begin(settings *script.Settings) error {
 	c.epoch, c.first, c.begun = c.epoch+1, c.carry.first, c.running
 	c.clients, c.carry, c.wish = c.carry.clients, nil, nil
 	c.sites, c.waiting, c.round = sites{}, queue{}, nil
+	c.objects, c.groups = nil, map[string][]string{}
 	c.asks, c.updates, c.acknowledged, c.dueSince, c.clock = 0, 0, 0, 0, 0
 	return nil
 }

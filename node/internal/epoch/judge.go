@@ -14,6 +14,8 @@ type Judge struct {
 	// written last, so a number is not written under the name in an entry.
 	numbers, carried map[string]*int64
 	ended            bool
+	// How many acknowledgements the entry asks for up to the step.
+	settled int64
 }
 
 // Take refuses an entry by a BrokenError, or takes it.
@@ -28,6 +30,7 @@ func (j *Judge) take(number int64, entry *script.Entry) string {
 	if why := j.enter(entry); why != "" {
 		return why
 	}
+	j.settled = 0
 	for at := range entry.Steps {
 		step := &entry.Steps[at]
 		if !belongs(step.Kind, j.ended, entry.Begins()) {
@@ -80,6 +83,8 @@ func (j *Judge) note(number int64, step *script.Step) string {
 	case script.Declare:
 		if words := strings.Fields(step.Words); len(words) > 1 && words[0] == "site" {
 			j.sites.add(strings.Clone(words[1]))
+		} else {
+			j.sites.declareLimit(words)
 		}
 	case script.Known:
 		numberOf(j.carried, step.Client, step.Number)
@@ -95,10 +100,14 @@ func (j *Judge) note(number int64, step *script.Step) string {
 		} else {
 			j.acknowledged++
 		}
+	case script.Settle:
+		j.settled += step.Count
 	case script.Wish:
 		j.noteWish(step, number)
 	case script.Leave:
 		j.sites.leave(step.Site, number)
+	case script.Relimit:
+		return j.noteRelimit(number, step)
 	case script.Tell, script.Gone:
 		site := j.sites.of(step.Site)
 		site.applied, site.gone = site.applied+step.Count, site.gone || step.Kind == script.Gone

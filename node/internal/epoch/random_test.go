@@ -40,7 +40,8 @@ func TestRandomRuns(t *testing.T) {
 		for step := 0; step < steps; step++ {
 			run.step()
 		}
-		if run.judge(); t.Failed() || run.core.Epoch() < 3 || len(run.answers) < 50 {
+		run.judge()
+		if t.Failed() || run.core.Epoch() < 3 || len(run.answers) < 50 {
 			t.Fatalf("seed %d: %d epochs, %d answers", seed, run.core.Epoch(), len(run.answers))
 		}
 	}
@@ -74,6 +75,11 @@ func (r *randomRun) step() {
 		r.core.AskNext(Wish{From: r.core.Epoch() - int64(r.chance.Intn(2))})
 	case dice < 96:
 		r.takeOver()
+	case dice < 97:
+		limit := script.Limit{Scope: "count", Amount: int64(r.chance.Intn(4))}
+		if _, err := r.core.AskLimit(Limiting{"north", limit}, r.now); err != nil && err != ErrNotNow {
+			r.t.Fatal(err)
+		}
 	}
 }
 

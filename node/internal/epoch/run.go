@@ -86,6 +86,8 @@ func (c *Core) note(step *script.Step, answers *answers) {
 	case script.Gone:
 		c.noteTell(step, answers)
 		c.sites.of(step.Site).gone = true
+	case script.Relimit:
+		c.noteRelimit(step, answers)
 	}
 }
 
@@ -95,12 +97,16 @@ func (c *Core) noteDeclared(step *script.Step, answers *answers) {
 	case answer.Started:
 		return
 	case answer.Declared:
-		words := strings.Fields(step.Words)
-		switch site := c.sites.of(given.Name); {
-		case given.Kind == "site":
+		switch given.Kind {
+		case "object":
+			c.objects = append(c.objects, strings.Clone(given.Name))
+		case "group":
+			words := strings.Fields(strings.Clone(step.Words))
+			c.groups[words[1]] = words[2:]
+		case "site":
 			c.sites.add(strings.Clone(given.Name))
-		case given.Kind == "limit" && site != nil && len(words) > 2:
-			site.limits = append(site.limits, strings.Join(words[2:], " "))
+		case "limit":
+			c.sites.declareLimit(strings.Fields(step.Words))
 		}
 		return
 	}

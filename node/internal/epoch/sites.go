@@ -6,6 +6,7 @@ import (
 	"time"
 
 	"ordup.dev/node/internal/exit"
+	"ordup.dev/node/internal/script"
 )
 
 // Near is how many updates a site may lack at the end of an epoch and still be here.
@@ -66,7 +67,9 @@ type site struct {
 	// Whether it is taken out, by which entry, and whether no process serves it any more.
 	leaves, gone bool
 	left         int64
-	limits       []string
+	// Its limits, and of those that were changed since when they are so.
+	limits script.Limits
+	since  map[string]since
 }
 
 // sites has the sites of an epoch, in the order of their declarations.

@@ -1,6 +1,10 @@
 package epoch
 
-import "time"
+import (
+	"time"
+
+	"ordup.dev/node/internal/script"
+)
 
 // A Status is what an operator may see of a core.
 type Status struct {
@@ -33,8 +37,9 @@ type SiteStatus struct {
 	NextWaits bool
 	// Leaves is whether it is taken out, and Gone whether no process has a lease of it any more.
 	Leaves, Gone bool
-	// Limits are those of the epoch, as `count 3`.
-	Limits []string
+	// Limits are those in force, and Lags, where they were asked for, what of each is used: see Core.Lags.
+	Limits script.Limits
+	Lags   []int64
 }
 
 // Status tells what there is.

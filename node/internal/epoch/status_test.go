@@ -3,6 +3,8 @@ package epoch
 import (
 	"testing"
 	"time"
+
+	"ordup.dev/node/internal/script"
 )
 
 func TestAStatusSaysWhatIsWaitedFor(t *testing.T) {
@@ -18,7 +20,7 @@ func TestAStatusSaysWhatIsWaitedFor(t *testing.T) {
 		return SiteStatus{}
 	}
 	is(t, false, of("south").HasTold)
-	is(t, []string{"count 1"}, of("north").Limits)
+	is(t, script.Limits{{Scope: "count", Amount: 1}}, of("north").Limits)
 	world.ask("ann", 1, "add:tea:-1")
 	world.write()
 	world.tell("south", 1)

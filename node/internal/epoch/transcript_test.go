@@ -16,7 +16,7 @@ import (
 // shown as `-`.
 func TestTranscripts(t *testing.T) {
 	files, err := filepath.Glob("testdata/*.txt")
-	if err != nil || len(files) < 4 {
+	if err != nil || len(files) < 5 {
 		t.Fatal(files, err)
 	}
 	for _, file := range files {
@@ -85,6 +85,28 @@ func (tr *transcript) do(command string) []string {
 			wish.Declarations = strings.Split(rest, ", ")
 		}
 		return []string{okOr(tr.core.AskNext(wish))}
+	case "relimit": // SITE LIMIT
+		limit, err := script.ParseLimit(strings.Join(words[2:], " "))
+		is(tr.t, nil, err)
+		limited, err := tr.core.AskLimit(Limiting{words[1], limit}, tr.now)
+		if err != nil {
+			return []string{err.Error()}
+		}
+		says := fmt.Sprintf("refused %d %s", limited.Answer.Refusal.Number, limited.Answer.Refusal.Name)
+		if !limited.Answer.IsRefused() {
+			says = fmt.Sprintf("from %d of epoch %d", limited.Answer.Place, limited.Answer.Epoch)
+		}
+		return []string{fmt.Sprintf("%s by entry %d", says, limited.Entry)}
+	case "lags":
+		lags, err := tr.core.Lags()
+		is(tr.t, nil, err)
+		says := []string{}
+		for _, site := range tr.core.Status(tr.now).Sites {
+			for at, limit := range site.Limits {
+				says = append(says, fmt.Sprintf("%s %s %d of %d", site.Name, limit.Scope, lags[site.Name][at], limit.Amount))
+			}
+		}
+		return says
 	case "gone": // SITE
 		return []string{okOr(tr.core.Gone(words[1]))}
 	case "leaving":

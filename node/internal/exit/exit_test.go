@@ -46,7 +46,8 @@ func TestUntilTheProcessIsAskedToEnd(t *testing.T) {
 				ends = true
 			case <-time.After(time.Second):
 			}
-			if cancel(); ends != row.ends {
+			cancel()
+			if ends != row.ends {
 				t.Error(row, ends)
 			}
 		})

@@ -62,8 +62,11 @@ func New(config Config, first int64) *Audit {
 // open gives the core a store, which the audit asks too.
 func (a *Audit) open() (store.Store, error) {
 	opened, err := a.config.Open()
+	if err != nil {
+		return nil, fmt.Errorf("open a store: %w", err)
+	}
 	a.store = opened
-	return opened, err
+	return opened, nil
 }
 
 // Close gives back what the audit has.

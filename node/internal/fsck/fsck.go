@@ -40,7 +40,7 @@ func (*LostError) ExitStatus() exit.Status { return exit.Gap }
 
 // A Config says what is checked.
 type Config struct {
-	// Folders have the archives of hosts. From is the first epoch that they have.
+	// Folders have the archives of hosts. From is the first epoch that they have: 0 stands for 1, or the first that Prune left in each.
 	Folders []string
 	From    int64
 	// Engine has the script that is not archived yet, or is nil.
@@ -63,6 +63,11 @@ type reader struct {
 // Run checks all, up to the first fault. It returns how many archives and entries it has read.
 func Run(ctx context.Context, config Config) (archives, entries int64, err error) {
 	reader := &reader{Config: config}
+	if reader.From == 0 {
+		if reader.From, err = firstOf(config.Folders); err != nil {
+			return 0, 0, err
+		}
+	}
 	if err = reader.readFolders(ctx); err == nil && config.Engine != nil {
 		err = reader.readEngine(ctx)
 	}
@@ -121,21 +126,13 @@ func fileOf(folders []string, number int64) (string, error) {
 	found, digest := "", [sha256.Size]byte{}
 	for _, folder := range folders {
 		name := filepath.Join(folder, archive.NameOf(number))
-		file, err := os.Open(name)
+		own, err := digestOf(name)
 		if errors.Is(err, os.ErrNotExist) {
 			continue
 		}
 		if err != nil {
 			return "", err
 		}
-		sum := sha256.New()
-		_, err = io.Copy(sum, file)
-		file.Close()
-		if err != nil {
-			return "", err
-		}
-		var own [sha256.Size]byte
-		sum.Sum(own[:0])
 		if found != "" && own != digest {
 			return "", &LostError{fmt.Sprintf("%s and %s differ", found, name)}
 		}
@@ -146,14 +143,24 @@ func fileOf(folders []string, number int64) (string, error) {
 	return found, nil
 }
 
+func digestOf(name string) (digest [sha256.Size]byte, err error) {
+	file, err := os.Open(name)
+	if err != nil {
+		return digest, err
+	}
+	defer file.Close()
+	sum := sha256.New()
+	_, err = io.Copy(sum, file)
+	sum.Sum(digest[:0])
+	return digest, err
+}
+
 // laterThan is an archive of a later epoch than this one, or "".
 func laterThan(folders []string, number int64) string {
 	for _, folder := range folders {
-		names, _ := filepath.Glob(filepath.Join(folder, "epoch-*.ordup"))
-		for _, name := range names {
-			var other int64
-			if count, _ := fmt.Sscanf(filepath.Base(name), "epoch-%d.ordup", &other); count == 1 && other > number {
-				return name
+		for _, other := range epochsIn(folder) {
+			if other > number {
+				return filepath.Join(folder, archive.NameOf(other))
 			}
 		}
 	}

@@ -1,6 +1,6 @@
 // Package modelstore has a store for tests, which link no library: a plain model of the lines that the program gives a store.
 //
-// It knows objects, sites, limits by count, add and set. It keeps the whole of what it is given, and is slow.
+// It knows objects, sites, limits by count which change, add and set, and queries that read at a site. It keeps the whole of what it is given, and is slow.
 package modelstore
 
 import (
@@ -17,6 +17,9 @@ import (
 // mostValue is the greatest value of an object, as in ordup.
 const mostValue = 1_000_000_000
 
+// mostLimit is the greatest amount of a limit.
+const mostLimit = 1_000_000_000_000_000_000
+
 // A Model is a store before or after its start.
 type Model struct {
 	objects []string
@@ -27,6 +30,11 @@ type Model struct {
 	log     []string
 	acked   int
 	round   []string
+	// The site at which the one query reads, or nil, and its reference.
+	reads *site
+	place int
+	// The values before the first update.
+	first map[string]int64
 	// Wrong, where it is not nil, changes the answer to a line: a store that is wrong.
 	Wrong func(line, answer string) string
 }
@@ -113,6 +121,10 @@ func (m *Model) answer(words []string) string {
 		return m.propose(words[1:])
 	case kind == "settle":
 		return m.settle()
+	case kind == "relimit":
+		return m.relimit(words[1:])
+	case kind == "begin" || kind == "read" || kind == "abandon":
+		return m.query(kind, words[1:])
 	case len(words) == 2 && m.at[words[1]] == nil:
 		return "refused 8 UnknownSite"
 	case len(words) == 2:
@@ -151,7 +163,7 @@ func (m *Model) start() string {
 			site.values[name] = value
 		}
 	}
-	m.started = true
+	m.started, m.first = true, m.values
 	return "ok start"
 }
 
@@ -220,6 +232,70 @@ func (m *Model) settle() string {
 	}
 	m.acked, m.round = head, nil
 	return fmt.Sprintf("ok acked %d", head)
+}
+
+// relimit changes the limit by count, which holds from the head on.
+func (m *Model) relimit(words []string) string {
+	if len(words) != 3 || words[1] != "count" {
+		return "refused 1 Syntax"
+	}
+	site := m.at[words[0]]
+	if site == nil {
+		return "refused 8 UnknownSite"
+	}
+	limit, err := strconv.Atoi(words[2])
+	switch {
+	case err != nil:
+		return "refused 1 Syntax"
+	case limit > mostLimit:
+		return "refused 9 OutOfRange"
+	case m.round != nil:
+		return "refused 24 HeadPending"
+	case m.acked-site.reported > limit:
+		return "refused 25 LagOver"
+	}
+	site.limit = limit
+	return fmt.Sprintf("ok relimit %s %d", words[0], m.acked+1)
+}
+
+// query begins the one query, or reads by it what the updates between its site and its reference weigh on an object.
+func (m *Model) query(kind string, words []string) string {
+	switch {
+	case kind == "begin" && len(words) == 3 && m.at[words[1]] == nil:
+		return "refused 8 UnknownSite"
+	case kind == "begin" && len(words) == 3:
+		m.reads, m.place = m.at[words[1]], m.acked
+		return fmt.Sprintf("ok begun %s %d", words[0], m.place)
+	case m.reads == nil:
+		return "refused 18 UnknownQuery"
+	case kind == "abandon":
+		m.reads = nil
+		return "ok abandoned " + words[0]
+	case kind != "read" || len(words) != 2:
+		return "refused 1 Syntax"
+	}
+	value, isThere := m.reads.values[words[1]]
+	if !isThere {
+		return "refused 6 UnknownObject"
+	}
+	from, to, weight := m.reads.applied, m.place, int64(0)
+	if from > to {
+		from, to = to, from
+	}
+	values := map[string]int64{}
+	for name := range m.values {
+		values[name] = m.first[name]
+	}
+	for at, changes := range m.log[:to] {
+		before := values[words[1]]
+		change(values, strings.Fields(changes))
+		if moved := values[words[1]] - before; at >= from && moved > 0 {
+			weight += moved
+		} else if at >= from {
+			weight -= moved
+		}
+	}
+	return fmt.Sprintf("ok read %s %s value %d import %d total %d", words[0], words[1], value, weight, weight)
 }
 
 func (m *Model) move(kind, name string, site *site) string {

@@ -28,46 +28,42 @@ func machines(t *testing.T) string {
 	return string(text)
 }
 
-// toldOf are the numbers that the page has of a kind of process, each as `name{label} type`. Those that it has of "" are of several kinds.
+// toldOf are the numbers that the page has of each kind of process, each as `name{label} type`.
 func toldOf(t *testing.T, page string) map[string]map[string]bool {
-	_, table, isThere := strings.Cut(page, "\nname | what it is, and its unit\n---|---\n")
+	t.Helper()
+	_, table, isThere := strings.Cut(page, "\nprocess | numbers\n---|---\n")
 	if !isThere {
 		t.Fatal("the page has no table of the numbers")
 	}
 	table, _, _ = strings.Cut(table, "\n\n")
-	told, kind := map[string]map[string]bool{"": {}}, ""
+	told := map[string]map[string]bool{"primary": {}, "site": {}, "fleet": {}}
 	for _, row := range strings.Split(table, "\n") {
-		names, says, _ := strings.Cut(row, " | ")
-		if heads := regexp.MustCompile(`^\*at a (\w+)\* \|$`).FindStringSubmatch(row); heads != nil {
-			kind = heads[1]
-			told[kind] = map[string]bool{}
-			continue
+		heads, numbers, _ := strings.Cut(row, " | ")
+		kinds := strings.Split(heads, ", ")
+		if heads == "each" {
+			kinds = []string{"primary", "site", "fleet"}
 		}
-		units := strings.Split(says[strings.LastIndex(says, ": ")+1:], ",")
-		for at, name := range regexp.MustCompile("`([^`]+)`").FindAllStringSubmatch(names, -1) {
-			unit := strings.TrimSpace(units[len(units)-1])
-			if len(units) > 1 {
-				unit = strings.TrimSpace(units[at])
+		for _, kind := range kinds {
+			for _, number := range regexp.MustCompile("(the histogram )?`([^`]+)`").FindAllStringSubmatch(numbers, -1) {
+				name := number[2] + " " + typeOf(number[2], number[1] != "")
+				if told[kind] == nil || told[kind][name] {
+					t.Errorf("the page has twice, or of no process: %s of a %s", name, kind)
+					continue
+				}
+				told[kind][name] = true
 			}
-			told[kind][name[1]+" "+typeOf(t, name[1], unit, strings.HasPrefix(says, "histogram "))] = true
 		}
 	}
 	return told
 }
 
-// typeOf is the type that a name and its row stand for. Prometheus wants the unit in the name.
-func typeOf(t *testing.T, name, unit string, isHistogram bool) string {
+// typeOf is the type that a name stands for by Prometheus' conventions.
+func typeOf(name string, isHistogram bool) string {
 	plain, _, _ := strings.Cut(name, "{")
-	base := strings.TrimSuffix(plain, "_total")
-	for _, each := range []string{"seconds", "updates", "bytes", "rounds"} {
-		if strings.HasSuffix(base, "_"+each) != (unit == each) {
-			t.Errorf("the page has %s in %s", name, unit)
-		}
-	}
 	switch {
 	case isHistogram:
 		return "HISTOGRAM"
-	case base != plain:
+	case strings.HasSuffix(plain, "_total"):
 		return "COUNTER"
 	}
 	return "GAUGE"
@@ -82,9 +78,12 @@ func madeBy(t *testing.T, numbers *Numbers) map[string]bool {
 	made := map[string]bool{}
 	for _, family := range families {
 		if name := strings.TrimPrefix(family.GetName(), "ordup_"); name != family.GetName() {
-			label := ""
+			labels, label := []string{}, ""
 			for _, each := range family.Metric[0].Label {
-				label = "{" + each.GetName() + "}"
+				labels = append(labels, each.GetName())
+			}
+			if len(labels) > 0 {
+				label = "{" + strings.Join(labels, ",") + "}"
 			}
 			made[name+label+" "+family.GetType().String()] = true
 		}
@@ -97,16 +96,21 @@ func allMade(t *testing.T) map[string]map[string]bool {
 		return fleet.Status{Members: []fleet.MemberStatus{{Place: epoch.Place{Member: "east", Epoch: 2}}}}
 	}
 	served := func() site.Status { return site.Status{HasTold: true, HasSeen: true} }
-	return map[string]map[string]bool{"primary": madeBy(t, OfPrimary("1", zero, func() primary.Status { return status }).Numbers),
-		"site": madeBy(t, OfSite("1", "north", zero, served)), "fleet": madeBy(t, OfFleet("1", zero, members))}
+	all := map[string]map[string]bool{}
+	for kind, numbers := range map[string]*Numbers{"primary": OfPrimary("1", zero, func() primary.Status { return status }).Numbers,
+		"site": OfSite("1", "north", zero, served), "fleet": OfFleet("1", zero, members)} {
+		numbers.Shows(func() map[string]time.Time { return map[string]time.Time{"node.pem": time.Unix(1_900_000_000, 0)} })
+		all[kind] = madeBy(t, numbers)
+	}
+	return all
 }
 
 func TestThePageHasEachNumberWithItsType(t *testing.T) {
 	t.Parallel()
-	told, all := toldOf(t, machines(t)), allMade(t)
-	for kind, made := range all {
+	told := toldOf(t, machines(t))
+	for kind, made := range allMade(t) {
 		for number := range made {
-			if !told[kind][number] && !told[""][number] {
+			if !told[kind][number] {
 				t.Errorf("the page has no %s of a %s", number, kind)
 			}
 		}
@@ -116,37 +120,32 @@ func TestThePageHasEachNumberWithItsType(t *testing.T) {
 			}
 		}
 	}
-	for number := range told[""] {
-		if !all["primary"][number] || !all["site"][number] {
-			t.Errorf("not each has a %s", number)
-		}
-	}
-	if len(told) != len(all)+1 {
-		t.Error(len(told))
-	}
 }
 
-func TestThePageAndTheAlertsNameNoOtherNumber(t *testing.T) {
+func TestThePageTheAlertsAndTheDashboardNameNoOtherNumber(t *testing.T) {
 	t.Parallel()
-	rules, err := os.ReadFile("../../prometheus/ordup-node.rules.yml")
-	if err != nil {
-		t.Fatal(err)
-	}
 	names := map[string]bool{}
 	for _, made := range allMade(t) {
 		for number := range made {
 			name, _, _ := strings.Cut(strings.Fields(number)[0], "{")
 			names["ordup_"+name] = true
+			if strings.HasSuffix(number, " HISTOGRAM") {
+				names["ordup_"+name+"_bucket"] = true
+			}
 		}
 	}
-	for where, text := range map[string]string{"the page": machines(t), "the alerts": string(rules)} {
-		named := regexp.MustCompile(`\bordup_\w+`).FindAllString(text, -1)
+	for _, file := range []string{"docs/MACHINES.md", "docs/HOSTS.md", "node/prometheus/ordup-node.rules.yml", "node/grafana/ordup-node.json"} {
+		text, err := os.ReadFile("../../../" + file)
+		if err != nil {
+			t.Fatal(err)
+		}
+		named := regexp.MustCompile(`\bordup_\w+`).FindAllString(string(text), -1)
 		if len(named) == 0 {
-			t.Errorf("no number is in %s", where)
+			t.Errorf("no number is in %s", file)
 		}
 		for _, name := range named {
 			if !names[name] {
-				t.Errorf("there is no %s, which is in %s", name, where)
+				t.Errorf("there is no %s, which is in %s", name, file)
 			}
 		}
 	}
@@ -180,15 +179,13 @@ func TestThePageHasTheStatusesAndSizesOfTheCode(t *testing.T) {
 		fmt.Sprintf("One of a site that is taken out goes after %s seconds", seconds(engine.LeaseTime)),
 		fmt.Sprintf("A request has at most %s bytes,", grouped(script.MostChangesBytes)),
 		fmt.Sprintf("\nthe engine is full | requests have the status %d.", status(wire.Full)),
-		fmt.Sprintf("client's last one | status %d, or %d with that number |", status(wire.Malformed), status(wire.Passed)),
-		fmt.Sprintf("Beyond `--requests` a call has the status %d,", status(wire.Busy)),
 		fmt.Sprintf("comes to other answers | who meets it ends with status %d,", exit.Gap),
 		fmt.Sprintf("\na site is not in the script, or not in its fleet | it ends with status %d |", exit.NotInScript),
 		fmt.Sprintf("\na site tells a place that cannot be, or it follows another script than the primary | it ends with status %d |", exit.NoPlace),
 		fmt.Sprintf("the user of etcd | the process ends with status %d |", exit.Environment),
-		fmt.Sprintf("| the process ends with status %d |\na request", exit.Words),
+		fmt.Sprintf("also its version | the process ends with status %d |", exit.Words),
 		fmt.Sprintf("answers what it can, and ends with %d.", exit.Done),
-		fmt.Sprintf("`update`, `value` and `next` end with %d where the store answered or refused; with %d where no answer came in time,", exit.Done, exit.Environment),
+		fmt.Sprintf("`update`, `value`, `next` and `relimit` end with %d where the store answered or refused; with %d where no answer came in time,", exit.Done, exit.Environment),
 		fmt.Sprintf("with %d where it can never be done.", exit.Words),
 	} {
 		if strings.Count(page, says) != 1 {

@@ -1,8 +1,9 @@
-// Package numbers has what operators see: numbers for Prometheus, and a page. docs/MACHINES.md says what they mean.
+// Package numbers has what operators see: numbers for Prometheus, and a page. The help of each number says what it is.
 package numbers
 
 import (
 	"net/http"
+	"time"
 
 	"github.com/prometheus/client_golang/prometheus"
 	"github.com/prometheus/client_golang/prometheus/collectors"
@@ -13,9 +14,9 @@ import (
 type sample struct {
 	name, help string
 	isCounter  bool
-	// Label is the name of a label and its value, or empty.
-	label [2]string
-	value float64
+	// Labels are the names of labels and their values.
+	labels [][2]string
+	value  float64
 }
 
 func gauge(name, help string, value float64) sample {
@@ -27,7 +28,7 @@ func counter(name, help string, value int64) sample {
 }
 
 func (s sample) of(name, value string) sample {
-	s.label = [2]string{name, value}
+	s.labels = append(s.labels[:len(s.labels):len(s.labels)], [2]string{name, value})
 	return s
 }
 
@@ -48,8 +49,8 @@ func (collector) Describe(chan<- *prometheus.Desc) {}
 func (c collector) Collect(to chan<- prometheus.Metric) {
 	for _, each := range c() {
 		names, values := []string{}, []string{}
-		if each.label[0] != "" {
-			names, values = append(names, each.label[0]), append(values, each.label[1])
+		for _, label := range each.labels {
+			names, values = append(names, label[0]), append(values, label[1])
 		}
 		kind := prometheus.GaugeValue
 		if each.isCounter {
@@ -71,10 +72,22 @@ func newNumbers(kind, version string, connections func() int, samples collector)
 			return []sample{
 				gauge("build_info", "1, with the version of the program", 1).of("version", version),
 				gauge("process_info", "1, with what the process is", 1).of("kind", kind),
-				gauge("connections", "connections from outside", float64(connections())),
+				gauge("connections", "connections from outside that are open", float64(connections())),
 			}
 		}))
 	return numbers
+}
+
+// Shows has the numbers tell until when the certificates are good that the process shows, by their files.
+func (n *Numbers) Shows(certificates func() map[string]time.Time) {
+	n.registry.MustRegister(collector(func() []sample {
+		samples := []sample{}
+		for file, until := range certificates() {
+			samples = append(samples, gauge("certificate_expiry_timestamp_seconds",
+				"when the first certificate of a file expires that the process shows", float64(until.Unix())).of("file", file))
+		}
+		return samples
+	}))
 }
 
 // Handler answers at /metrics.

@@ -13,6 +13,7 @@ import (
 	"ordup.dev/node/internal/epoch"
 	"ordup.dev/node/internal/fleet"
 	"ordup.dev/node/internal/primary"
+	"ordup.dev/node/internal/script"
 	"ordup.dev/node/internal/site"
 )
 
@@ -42,7 +43,7 @@ var status = primary.Status{Writes: true, Lease: time.Second, Writer: "http://p1
 	Since: 2 * time.Second, HasSeen: true, Archives: 1,
 	Core: epoch.Status{Epoch: 3, Entries: 40, Updates: 8, Acknowledged: 6, Clients: 2, HeadWaits: 12 * time.Second, Due: true, DueSince: 3 * time.Second,
 		Sites: []epoch.SiteStatus{{Name: "north", Applied: 4, Missing: 2, Rounds: 1, Waited: true, NextWaits: true, HasTold: true, Told: time.Second,
-			Limits: []string{"count 3", "object tea 20"}}, {Name: "south", Applied: 8, Leaves: true}}}}
+			Limits: script.Limits{{Scope: "count", Amount: 3}, {Scope: "object tea", Amount: 20}}, Lags: []int64{2, 19}}, {Name: "south", Applied: 8, Leaves: true}}}}
 
 func TestNumbersOfAPrimary(t *testing.T) {
 	t.Parallel()
@@ -52,7 +53,8 @@ func TestNumbersOfAPrimary(t *testing.T) {
 		"ordup_acknowledged_updates 6", "ordup_clients 2", "ordup_head_wait_seconds 12", `ordup_head_waits_for{site="north"} 1`,
 		`ordup_head_waits_for{site="south"} 0`, `ordup_next_epoch_waits_for{site="north"} 1`, "ordup_next_epoch_due 1", "ordup_next_epoch_due_seconds 3",
 		`ordup_site_missing_updates{site="north"} 2`, `ordup_site_rounds_total{site="north"} 9`, `ordup_site_told_seconds{site="north"} 1`,
-		`ordup_leave_keys{site="south"} 3`, `ordup_leave_keys_without_lease{site="south"} 2`, `ordup_site_has_told{site="south"} 0`, "ordup_last_entry_seconds 2", "ordup_archives_waiting 1", "ordup_requests_total 5", "# TYPE ordup_requests_total counter",
+		`ordup_leave_keys{site="south"} 3`, `ordup_leave_keys_without_lease{site="south"} 2`, `ordup_site_has_told{site="south"} 0`,
+		`ordup_site_lag{limit="object tea",site="north"} 19`, `ordup_site_limit{limit="object tea",site="north"} 20`, "ordup_last_entry_seconds 2", "ordup_archives_waiting 1", "ordup_requests_total 5", "# TYPE ordup_requests_total counter",
 		`ordup_update_wait_seconds_bucket{le="0.005"} 1`, "ordup_connections 7", "go_goroutines", "process_resident_memory_bytes")
 }
 
@@ -80,7 +82,7 @@ func TestThePageOfAPrimary(t *testing.T) {
 	}
 	text := get(t, PageOfPrimary("p1", lag, func() primary.Status { return status }))
 	has(t, text, "It writes the script.", "The update 7 waits for north, for 12.0 s already.", "The next epoch has been due for 3.0 s, and waits for north.",
-		"<td class=\"\">count 3, object tea 20</td>", "by the head, by the next epoch", "taken out, held by 3 keys in the engine", "<svg", `points="60.0,`, "&lt;b&gt;", `class="left">49</text>`)
+		"<td class=\"\">count 2 of 3, object tea 19 of 20</td>", "by the head, by the next epoch", "taken out, held by 3 keys in the engine", "<svg", `points="60.0,`, "&lt;b&gt;", `class="left">49</text>`)
 	if strings.Contains(text, "<b>") {
 		t.Error("a name is not quoted")
 	}

@@ -11,6 +11,7 @@ import (
 	"ordup.dev/node/internal/epoch"
 	"ordup.dev/node/internal/fleet"
 	"ordup.dev/node/internal/primary"
+	"ordup.dev/node/internal/script"
 	"ordup.dev/node/internal/site"
 )
 
@@ -92,8 +93,20 @@ func rowOf(status *primary.Status, site *epoch.SiteStatus) []cell {
 		}
 	}
 	return []cell{{Text: site.Name}, {Text: fmt.Sprint(site.Applied), N: true}, {Text: fmt.Sprint(site.Missing), N: true},
-		{Text: strings.Join(site.Limits, ", ")}, {Text: fmt.Sprint(status.Rounds[site.Name]), N: true}, {Text: told, N: true},
+		{Text: limitsOf(site)}, {Text: fmt.Sprint(status.Rounds[site.Name]), N: true}, {Text: told, N: true},
 		{Text: strings.Join(waits, ", "), Bad: site.Waited || site.NextWaits}}
+}
+
+// limitsOf has the limits of a site, each with what of it is used: `count 2 of 3`.
+func limitsOf(site *epoch.SiteStatus) string {
+	texts := site.Limits.Texts()
+	for at, lag := range site.Lags {
+		limit := site.Limits[at]
+		if texts[at] = fmt.Sprintf("%s %d of %d", limit.Scope, lag, limit.Amount); limit.Amount == script.MostAmount {
+			texts[at] = limit.Scope + " none"
+		}
+	}
+	return strings.Join(texts, ", ")
 }
 
 // saysOf says in words what a primary does, and what it waits for.

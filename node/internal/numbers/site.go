@@ -14,18 +14,18 @@ func ofSite(name string, now *site.Status) []sample {
 	samples := []sample{
 		gauge("site_serves", "whether the site serves readers", truth(now.Serves)).of("site", name),
 		gauge("lease_seconds", "for how long the process may rely on its lease", now.Lease.Seconds()),
-		gauge("epoch", "the epoch", float64(now.Epoch)),
-		gauge("entries", "entries of the script that were run", float64(now.Entry)),
+		gauge("epoch", "the epoch that was run last", float64(now.Epoch)),
+		gauge("entries", "entries of the script that were run, of all epochs", float64(now.Entry)),
 		gauge("site_applied_updates", "updates of the epoch that the site has applied", float64(now.Place)).of("site", name),
 		gauge("site_reported_updates", "updates of the epoch that the script has as told", float64(now.Told)).of("site", name),
 		counter("readers_total", "readers that were served", now.Readers),
-		counter("engine_failures_total", "calls of the engine that failed", now.EngineFailures),
+		counter("engine_failures_total", "calls of the engine that failed, by any of its members", now.EngineFailures),
 	}
 	if now.HasTold {
-		samples = append(samples, gauge("site_told_seconds", "since when a place was told", now.ToldSince.Seconds()).of("site", name))
+		samples = append(samples, gauge("site_told_seconds", "since when this process told no place; it does every three seconds", now.ToldSince.Seconds()).of("site", name))
 	}
 	if now.HasSeen {
-		samples = append(samples, gauge("last_entry_seconds", "since when the last entry is here", now.Since.Seconds()))
+		samples = append(samples, gauge("last_entry_seconds", "since when this process has its last entry", now.Since.Seconds()))
 	}
 	return samples
 }
@@ -42,7 +42,7 @@ func OfFleet(version string, connections func() int, status func() fleet.Status)
 					of("site", member.Place.Member))
 			if member.Place.Epoch > 0 {
 				samples = append(samples,
-					gauge("member_told_seconds", "since when the site told nothing", member.Told.Seconds()).of("site", member.Place.Member))
+					gauge("member_told_seconds", "since when the site told this process nothing; it does every three seconds", member.Told.Seconds()).of("site", member.Place.Member))
 			}
 		}
 		return samples

@@ -53,6 +53,8 @@ type calls struct {
 	waiters int
 	nexts   []*nextCall
 	wishes  []*nextCall
+	// The changes of limits that are not taken yet, and those whose entry is not written yet.
+	limits, limited []*limitCall
 }
 
 func (c *calls) init(own string) {
@@ -120,6 +122,7 @@ func (c *calls) failAllLocked(err error) {
 	for _, next := range append(c.nexts, c.wishes...) {
 		next.done <- outcome{err: err}
 	}
+	c.failLimitsLocked(err)
 	c.queue, c.waiting, c.waiters, c.nexts, c.wishes = nil, map[asked][]*call{}, 0, nil, nil
 }
 

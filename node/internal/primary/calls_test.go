@@ -85,7 +85,8 @@ func TestAProcessThatWritesNoMoreDoesNotNameItself(t *testing.T) {
 		open          bool
 		address, want string
 	}{{true, "http://p1", "http://p1"}, {false, "http://p1", ""}, {false, "http://p2", "http://p2"}, {false, "", ""}} {
-		if calls.set(row.open, row.address); calls.writer() != row.want || calls.isOpen() != row.open {
+		calls.set(row.open, row.address)
+		if calls.writer() != row.want || calls.isOpen() != row.open {
 			t.Errorf("%v: %s", row, calls.writer())
 		}
 	}

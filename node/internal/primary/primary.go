@@ -219,6 +219,12 @@ func (p *Primary) Status() Status {
 	p.see(func(core *epoch.Core) {
 		if core != nil {
 			status.Core = core.Status(clock.Now())
+			lags, err := core.Lags()
+			for at := range status.Core.Sites {
+				if site := &status.Core.Sites[at]; err == nil {
+					site.Lags = lags[site.Name]
+				}
+			}
 		}
 		if p.markAt > 0 {
 			status.Since, status.HasSeen = clock.Now()-p.markAt, true

@@ -114,17 +114,25 @@ func (w *writing) take() error {
 	}
 	nexts := calls.nexts
 	calls.nexts = nil
+	limits := calls.takeLimitsLocked()
 	calls.lock.Unlock()
 	return w.with(func(core *epoch.Core) (err error) {
 		for _, next := range nexts {
 			calls.keepWish(next, core.AskNext(next.wish))
+		}
+		if err = w.relimit(core, limits); err != nil {
+			return err
 		}
 		if err = w.ask(core, came, now); err != nil {
 			return err
 		}
 		w.again, err = core.Work(now)
 		calls.tellWishes(core)
-		return err
+		calls.tellLimits(core)
+		if err != nil {
+			return fmt.Errorf("run what sites told, and settle: %w", err)
+		}
+		return nil
 	})
 }
 
@@ -145,7 +153,7 @@ func (w *writing) ask(core *epoch.Core, came []*call, now time.Duration) error {
 		for _, call := range came {
 			call.done <- outcome{err: &NotWriterError{}}
 		}
-		return err
+		return fmt.Errorf("take %d requests: %w", len(came), err)
 	}
 	later := w.calls.sort(came, replies)
 	w.counts.requests.Add(int64(len(came) - later))
@@ -162,10 +170,13 @@ func (w *writing) seal(ctx context.Context) error {
 		batch, err = w.writer.Seal(core, &w.digests, clock.Now())
 		return err
 	})
-	if err == nil && batch != nil {
+	if err != nil {
+		return fmt.Errorf("seal the open batch: %w", err)
+	}
+	if batch != nil {
 		go func() { w.landed <- w.send(ctx, batch) }()
 	}
-	return err
+	return nil
 }
 
 // send writes a batch, and tries again until it is known what became of it.
@@ -177,9 +188,10 @@ func (p *Primary) send(ctx context.Context, batch *epoch.Batch) error {
 			p.counts.full.Store(false)
 			return nil
 		}
+		err = fmt.Errorf("write the entry %d: %w", batch.Number, err)
 		if !engine.IsAway(err) {
 			p.counts.full.Store(false)
-			return fmt.Errorf("write the entry %d: %w", batch.Number, err)
+			return err
 		}
 		if engine.IsFull(err) {
 			p.counts.full.Store(true)
@@ -187,7 +199,7 @@ func (p *Primary) send(ctx context.Context, batch *epoch.Batch) error {
 		p.config.Log.Warn("engine-away", "why", err)
 		clock.Pause(ctx, afterFailure)
 		if ctx.Err() != nil {
-			return fmt.Errorf("write the entry %d: %w", batch.Number, err)
+			return err
 		}
 	}
 }

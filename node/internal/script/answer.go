@@ -38,6 +38,24 @@ func (a *Answer) append(to []byte) []byte {
 	return strconv.AppendInt(append(to, " epoch "...), a.Epoch, 10)
 }
 
+// appendLimit appends the answer to a change of a limit: `ok PLACE` or `refused N NAME`.
+func (a *Answer) appendLimit(to []byte) []byte {
+	if a.IsRefused() {
+		return a.Refusal.append(to)
+	}
+	return strconv.AppendInt(append(to, "ok "...), a.Place, 10)
+}
+
+// limited reads the answer to a change of a limit up to the end of the line.
+func (w *words) limited() Answer {
+	first := w.next()
+	if first == "refused" {
+		return Answer{Refusal: Refusal{w.number(1, MostCounted), w.word(mostWordBytes)}}
+	}
+	w.keep(first == "ok")
+	return Answer{Place: w.number(1, MostCounted+1)} // A log that is full has no such update.
+}
+
 // answer reads an answer up to the end of the line.
 func (w *words) answer() Answer {
 	first := w.next()

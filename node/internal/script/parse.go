@@ -3,6 +3,7 @@ package script
 import (
 	"bytes"
 	"fmt"
+	"math"
 	"strconv"
 	"strings"
 )
@@ -115,6 +116,8 @@ func (s *Step) parse(line string) bool {
 		s.Seconds = w.number(1, MostCounted)
 	case Leave:
 		s.Site = w.site()
+	case Relimit:
+		s.Site, s.Limit, s.Answer = w.site(), w.limit(), w.limited()
 	case Answered:
 		s.Client, s.Number = w.client(), w.number(1, MostNumber)
 		s.Digest, s.Answer = w.word(mostWordBytes), w.answer()
@@ -202,6 +205,16 @@ func (w *words) age() int64 {
 		return 0
 	}
 	return age
+}
+
+// limit is one up to its amount.
+func (w *words) limit() Limit {
+	text := w.next()
+	if text == "object" || text == "group" {
+		text += " " + w.next()
+	}
+	w.keep(isScope(strings.Split(text, " ")))
+	return Limit{text, w.number(0, math.MaxInt64)}
 }
 
 // text is the rest of the line.

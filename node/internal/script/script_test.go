@@ -22,6 +22,8 @@ func whole() *Entry {
 		{Kind: Want, Words: "start"},
 		{Kind: Leave, Site: "south"},
 		{Kind: Gone, Site: "south", Count: 0},
+		{Kind: Relimit, Site: "south", Limit: Limit{"object tea", 20}, Answer: Answer{Place: 7}},
+		{Kind: Relimit, Site: "south", Limit: Limit{"all", 0}, Answer: Answer{Refusal: Refusal{25, "LagOver"}}},
 		{Kind: Elapsed, Seconds: 5},
 		{Kind: Answered, Client: "ann", Number: 4, Digest: "cd", Answer: Answer{Refusal: Refusal{9, "OutOfRange"}}},
 	}}
@@ -38,6 +40,8 @@ wish 100 2 00ff 0.2.0 1000 10 00aa 60 0
 want start
 leave south
 gone south 0
+relimit south object tea 20 ok 7
+relimit south all 0 refused 25 LagOver
 elapsed 5
 answer ann 4 cd refused 9 OutOfRange
 `
@@ -77,11 +81,12 @@ func TestAnArchiveHasTheLinesOfOrdup(t *testing.T) {
 	t.Parallel()
 	entry := &Entry{Epoch: 1, Ordup: "0.2.0", Writer: "p1", Steps: []Step{
 		{Kind: Tell, Site: "south", Count: 2}, {Kind: Ask, Client: "ann", Number: 1, Words: "add:tea:1"}, {Kind: Settle, Count: 2},
+		{Kind: Relimit, Site: "south", Limit: Limit{"group goods", 20}, Answer: Answer{Place: 7}},
 	}}
 	wants := strings.Join([]string{
 		"# entry 17", "# ordup-node 1 epoch 1 ordup 0.2.0 writer p1",
 		"# tell south 2", "send south", "apply south", "send south", "apply south", "report south",
-		"# ask ann 1 add:tea:1", "propose add:tea:1", "# settle 2", "settle", "settle", ""}, "\n")
+		"# ask ann 1 add:tea:1", "propose add:tea:1", "# settle 2", "settle", "settle", "# relimit south group goods 20 ok 7", "relimit south group goods 20", ""}, "\n")
 	if text := string(entry.AppendArchive(nil, 17)); text != wants {
 		t.Errorf("the archive is\n%s", text)
 	}
@@ -103,6 +108,9 @@ func TestWhatIsNoEntry(t *testing.T) {
 		header + "answer ann 1 ab ok acked 1 epoch 1\nsettle 1\n", header + "answer ann 1 ab ok\n", header + "answer ann 1 ab ok acked 0 epoch 1\n",
 		header + "answer ann 1 ab ok acked 01 epoch 1\n", header + "answer ann 1 ab ok acked 1 epoch 1 2\n", header + "answer ann 1 ab refused 9\n",
 		header + "answer ann 1 ab refused x Syntax\n", header + "answer ann 1 ab refused 9 OutOfRange \n", header + "known ann 3 ab 1 refused\n", header + "leave \xff\n", header + "leave south north\n",
+		header + "relimit south count 3\n", header + "relimit south count 3 ok 0\n", header + "relimit south count none ok 1\n", header + "relimit south count 03 ok 1\n",
+		header + "relimit south object Tea 3 ok 1\n", header + "relimit south tea 3 ok 1\n", header + "relimit south count 3 ok 1 2\n",
+		header + "relimit south count 3 refused 25\n", header + "relimit South count 3 ok 1\n", header + "relimit south count 3 acked 1\n",
 		strings.Repeat("x", 2*MostEntryBytes+1),
 	} {
 		t.Run(fmt.Sprintf("%.60q", text), func(t *testing.T) {

@@ -30,6 +30,9 @@ const (
 	Leave
 	// Gone says that no process has a lease of a site that is taken out, which counts as at the end: Site, Count.
 	Gone
+	// Relimit changes a limit of a site, or gives it one, if the store takes that: Site, Limit, Answer, whose Place is the update from which on it
+	// is in force.
+	Relimit
 	// Elapsed says that more seconds have passed, by the clock of the writer: Seconds.
 	Elapsed
 	// Answered is what was decided for a client in this entry: Client, Number, Digest, Answer.
@@ -39,7 +42,7 @@ const (
 // kindNames are the first words of the lines.
 var kindNames = [...]string{
 	Begin: "begin", Declare: "declare", Known: "known", Tell: "tell", Ask: "ask", Settle: "settle",
-	Wish: "wish", Want: "want", Leave: "leave", Gone: "gone", Elapsed: "elapsed", Answered: "answer",
+	Wish: "wish", Want: "want", Leave: "leave", Gone: "gone", Relimit: "relimit", Elapsed: "elapsed", Answered: "answer",
 }
 
 // String is the first word of the line of a step of this kind.
@@ -83,6 +86,7 @@ type Step struct {
 	Count int64
 	// Words are those of ordup: a declaration, or the changes of a request.
 	Words  string
+	Limit  Limit
 	Answer Answer
 	// Of a request that is carried over: the epoch that took it, and how many seconds it is older than what carries it over.
 	Epoch, Age int64
@@ -122,6 +126,10 @@ func (s *Step) Append(to []byte) []byte {
 		number(s.Seconds)
 	case Leave:
 		word(s.Site)
+	case Relimit:
+		word(s.Site)
+		word(s.Limit.String())
+		to = s.Answer.appendLimit(append(to, ' '))
 	case Answered:
 		word(s.Client)
 		number(s.Number)
@@ -159,6 +167,8 @@ func (s *Step) AppendLines(to []byte) []byte {
 			to = append(append(append(to, "apply "...), s.Site...), '\n')
 		}
 		to = append(append(append(to, "report "...), s.Site...), '\n')
+	case Relimit:
+		to = append(append(append(append(append(to, "relimit "...), s.Site...), ' '), s.Limit.String()...), '\n')
 	}
 	return to
 }

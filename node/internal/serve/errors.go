@@ -68,10 +68,15 @@ func ErrorOf(err error, otherwise wire.Name) *wire.Error {
 // ackedOf is how an answer travels. A refusal is an error.
 func ackedOf(request epoch.Request, answer script.Answer) (*wire.Acked, error) {
 	if answer.IsRefused() {
-		refused := wire.NewError(wire.Refused, answer.String())
-		refused.Refused, refused.Refusal = answer.Refusal.Number, answer.Refusal.Name
-		return nil, refused
+		return nil, refusedOf(answer)
 	}
 	return &wire.Acked{Client: request.Client, Number: request.Number, Epoch: answer.Epoch, Place: answer.Place,
 		Seen: wire.SeenText(answer.Epoch, answer.Place)}, nil
+}
+
+// refusedOf is how a refusal of the store travels.
+func refusedOf(answer script.Answer) *wire.Error {
+	refused := wire.NewError(wire.Refused, answer.String())
+	refused.Refused, refused.Refusal = answer.Refusal.Number, answer.Refusal.Name
+	return refused
 }

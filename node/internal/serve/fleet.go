@@ -4,7 +4,6 @@ import (
 	"context"
 	"errors"
 	"fmt"
-	"net/http"
 
 	"ordup.dev/node/internal/epoch"
 	"ordup.dev/node/internal/wire"
@@ -24,7 +23,7 @@ type Fleet struct {
 // NewFleet gives the handler of a fleet.
 func NewFleet(config Config, teller Teller) *Fleet {
 	served := &Fleet{newServer(config), teller}
-	served.answers(wire.PlacePath, route{http.MethodPost, Sites, wire.MostBody, &room{most: mostPlaces}, waits, served.place})
+	served.answers(wire.PlacePath, &room{most: mostPlaces}, served.place)
 	return served
 }
 

@@ -16,22 +16,21 @@ import (
 	"ordup.dev/node/internal/wire"
 )
 
-// A Role is who may ask something.
-type Role int
+// A Role is who may ask something, as the table of paths has it.
+type Role = wire.Role
 
-// The roles. Anybody needs no token.
+// The roles that tokens are of.
 const (
-	Anybody Role = iota
-	Clients
-	Sites
-	Operators
+	Clients   = wire.Clients
+	Sites     = wire.Sites
+	Operators = wire.Operators
 )
 
 // What a role needs. Open also stands in place of a file.
 const (
 	Open    = "open"
+	ByToken = "tokens"
 	closed  = "closed"
-	byToken = "tokens"
 )
 
 // leastToken is how many bytes a token has at least.
@@ -84,7 +83,7 @@ func (g *Guard) Asks(role Role) string {
 	case g.tokens[role] == nil:
 		return closed
 	}
-	return byToken
+	return ByToken
 }
 
 func knownOf(role Role, file string) ([]known, error) {
@@ -131,7 +130,7 @@ func TokensOf(file string) ([]Token, error) {
 
 // admit is why a request is not taken, or nil. Site is the one for whose places alone its token is, if it names one.
 func (g *Guard) admit(role Role, asked *http.Request) (site string, err error) {
-	if role != Anybody {
+	if role != wire.Anybody {
 		site, err = g.find(role, asked)
 		if err != nil {
 			return "", err

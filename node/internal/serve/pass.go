@@ -35,7 +35,7 @@ func (p *Passer) on(ctx context.Context, asked *request, address string, to any)
 	}
 	passed, err := http.NewRequestWithContext(ctx, asked.Method, url, bytes.NewReader(asked.body))
 	if err != nil {
-		return err
+		return fmt.Errorf("pass a request on to %s: %w", address, err)
 	}
 	passed.Header.Set(wire.PassedHeader, "1")
 	for _, name := range []string{"Authorization", "Content-Type"} {

@@ -4,7 +4,6 @@ import (
 	"context"
 	"errors"
 	"fmt"
-	"net/http"
 	"strings"
 	"time"
 
@@ -19,6 +18,7 @@ type Writer interface {
 	Submit(ctx context.Context, request epoch.Request) (script.Answer, error)
 	Tell(ctx context.Context, place epoch.Place) error
 	Next(ctx context.Context, wish epoch.Wish) (int64, error)
+	Relimit(ctx context.Context, asked epoch.Limiting) (script.Answer, error)
 	Status() primary.Status
 }
 
@@ -30,18 +30,16 @@ type Primary struct {
 	waited func(time.Duration)
 }
 
-// waits are the words of a path that says how long it is waited for, and sees those of one that says what was seen too.
-var waits, sees = []string{"wait"}, []string{"wait", "seen"}
-
 // NewPrimary gives the handler of a primary. Waited is told how long each update waited that has its answer.
 func NewPrimary(config Config, writer Writer, pass *Passer, waited func(time.Duration)) *Primary {
 	served := &Primary{newServer(config), writer, pass, waited}
 	// Updates wait for places, so they never take the room of these.
 	updates, places := &room{most: int64(config.Requests)}, &room{most: mostPlaces}
-	served.answers(wire.UpdatePath, route{http.MethodPost, Clients, wire.MostBody, updates, waits, served.update})
-	served.answers(wire.PlacePath, route{http.MethodPost, Sites, wire.MostBody, places, waits, served.place})
-	served.answers(wire.NextPath, route{http.MethodPost, Operators, wire.MostNextBody, &room{most: mostNexts}, waits, served.next})
-	served.answers(wire.EpochPath, route{http.MethodGet, Operators, 0, &room{most: mostLooks}, waits, served.epoch})
+	served.answers(wire.UpdatePath, updates, served.update)
+	served.answers(wire.PlacePath, places, served.place)
+	served.answers(wire.NextPath, &room{most: mostNexts}, served.next)
+	served.answers(wire.EpochPath, &room{most: mostLooks}, served.epoch)
+	served.answers(wire.LimitPath, &room{most: mostNexts}, served.relimit)
 	return served
 }
 
@@ -114,6 +112,25 @@ func (p *Primary) next(ctx context.Context, asked *request) (any, error) {
 		return value, err
 	}
 	return wire.Begun{Epoch: begun}, nil
+}
+
+func (p *Primary) relimit(ctx context.Context, asked *request) (any, error) {
+	var relimit wire.Relimit
+	if err := asked.read(&relimit); err != nil {
+		return nil, err
+	}
+	limit, err := script.ParseLimit(relimit.Limit)
+	if err != nil || !script.IsName(relimit.Site) {
+		return nil, malformed(fmt.Errorf("%.40q is to have a limit: %w", relimit.Site, err))
+	}
+	answer, err := p.writer.Relimit(ctx, epoch.Limiting{Site: relimit.Site, Limit: limit})
+	if err != nil {
+		return p.orPassed(ctx, asked, err, &wire.Limited{})
+	}
+	if answer.IsRefused() {
+		return nil, refusedOf(answer)
+	}
+	return wire.Limited{Site: relimit.Site, Limit: limit.String(), Epoch: answer.Epoch, Place: answer.Place}, nil
 }
 
 func (p *Primary) epoch(ctx context.Context, asked *request) (any, error) {

@@ -50,18 +50,16 @@ type server struct {
 	ends  atomic.Bool
 }
 
-// A route is one path.
+// A route is a path that is answered in JSON.
 type route struct {
-	method string
-	role   Role
-	// Body is how many bytes a body may have. Room is for how many requests are under way at once, and bodies too where these are large.
-	body int
+	*wire.Path
+	// Room is for how many requests are under way at once, and bodies too where these are large.
 	room *room
-	// Words are those that may stand behind the `?`.
-	words []string
-	// Answer gives what is written as JSON.
-	answer func(ctx context.Context, asked *request) (any, error)
+	// Answer gives what is written.
+	answer answer
 }
+
+type answer func(ctx context.Context, asked *request) (any, error)
 
 // A request is one that was read.
 type request struct {
@@ -94,10 +92,10 @@ func newServer(config Config) *server {
 	server := &server{Config: config, paths: http.NewServeMux()}
 	// Nobody takes the room of health, so there is no limit, and that of readiness is its own.
 	health, looks := &room{most: math.MaxInt64}, &room{most: mostLooks}
-	server.plain(wire.HealthPath, Anybody, health, http.HandlerFunc(func(to http.ResponseWriter, _ *http.Request) { to.Write([]byte("ok\n")) }))
-	server.plain(wire.ReadyPath, Anybody, &room{most: mostLooks}, http.HandlerFunc(server.ready))
-	server.plain(wire.NumbersPath, Operators, looks, config.Numbers)
-	server.plain(wire.PagePath, Operators, looks, exactly(wire.PagePath, config.Page))
+	server.plain(wire.HealthPath, health, http.HandlerFunc(func(to http.ResponseWriter, _ *http.Request) { to.Write([]byte("ok\n")) }))
+	server.plain(wire.ReadyPath, &room{most: mostLooks}, http.HandlerFunc(server.ready))
+	server.plain(wire.NumbersPath, looks, config.Numbers)
+	server.plain(wire.PagePath, looks, exactly(wire.PagePath, config.Page))
 	return server
 }
 
@@ -139,7 +137,8 @@ func exactly(path string, handler http.Handler) http.Handler {
 }
 
 // plain answers by a handler that writes the answer itself.
-func (s *server) plain(path string, role Role, room *room, handler http.Handler) {
+func (s *server) plain(path string, room *room, handler http.Handler) {
+	role := wire.PathOf(path).Role
 	s.paths.HandleFunc(path, func(to http.ResponseWriter, asked *http.Request) {
 		listen.Hurry(asked)
 		defer listen.Begin(asked)()
@@ -159,10 +158,11 @@ func (s *server) plain(path string, role Role, room *room, handler http.Handler)
 
 var errBusy = wire.NewError(wire.Busy, "too many requests are under way")
 
-// answers answers a path by a route.
-func (s *server) answers(path string, route route) {
+// answers answers a path of the table, by an answer that is written as JSON.
+func (s *server) answers(path string, room *room, answer answer) {
+	route := &route{wire.PathOf(path), room, answer}
 	s.paths.HandleFunc(path, func(to http.ResponseWriter, asked *http.Request) {
-		value, err := s.answer(to, asked, &route)
+		value, err := s.answer(to, asked, route)
 		if err != nil {
 			fail(to, asked, err)
 			return
@@ -180,14 +180,14 @@ func (s *server) answer(to http.ResponseWriter, asked *http.Request, route *rout
 		end = listen.Begin(asked)
 		return nil, err
 	}
-	isLarge := route.body > wire.MostBody
+	isLarge := route.MostBody > wire.MostBody
 	if isLarge {
 		if !route.room.enter() {
 			return nil, errBusy
 		}
 		defer route.room.leave()
 	}
-	read.body, err = bodyOf(asked, route.body)
+	read.body, err = bodyOf(asked, route.MostBody)
 	end = listen.Begin(asked)
 	if err != nil {
 		to.Header().Set("Connection", "close")
@@ -206,14 +206,14 @@ func (s *server) answer(to http.ResponseWriter, asked *http.Request, route *rout
 
 // headOf reads what a request has before its body, and for how long its answer is waited for.
 func (s *server) headOf(to http.ResponseWriter, asked *http.Request, route *route) (read *request, wait time.Duration, err error) {
-	if asked.Method != route.method {
-		to.Header().Set("Allow", route.method)
+	if asked.Method != route.Method {
+		to.Header().Set("Allow", route.Method)
 		return nil, 0, errMethod
 	}
 	read = &request{Request: asked, header: to.Header()}
-	read.site, err = s.Guard.admit(route.role, asked)
+	read.site, err = s.Guard.admit(route.Role, asked)
 	if err == nil {
-		read.words, err = wordsOf(asked, route.words)
+		read.words, err = wordsOf(asked, route.Words)
 	}
 	if err == nil {
 		wait, err = waitOf(read.words)
@@ -245,7 +245,7 @@ func (r *request) read(to any) error {
 }
 
 // wordsOf reads what stands behind the `?`: words that the path knows, each once.
-func wordsOf(asked *http.Request, known []string) (url.Values, error) {
+func wordsOf(asked *http.Request, known []wire.Word) (url.Values, error) {
 	words, err := url.ParseQuery(asked.URL.RawQuery)
 	if err != nil {
 		return nil, malformed(err)
@@ -253,7 +253,7 @@ func wordsOf(asked *http.Request, known []string) (url.Values, error) {
 	for word, values := range words {
 		isKnown := false
 		for _, each := range known {
-			isKnown = isKnown || each == word
+			isKnown = isKnown || each.Name == word
 		}
 		if !isKnown || len(values) != 1 {
 			return nil, malformed(fmt.Errorf("%.40q is no word of this path, or stands there twice", word))

@@ -2,12 +2,10 @@ package serve_test
 
 import (
 	"context"
-	"encoding/json"
 	"errors"
 	"fmt"
 	"io"
 	"net/http"
-	"os"
 	"strings"
 	"sync"
 	"testing"
@@ -33,6 +31,7 @@ type writer struct {
 	asked  []epoch.Request
 	places []epoch.Place
 	wishes []epoch.Wish
+	limits []epoch.Limiting
 	status primary.Status
 }
 
@@ -61,6 +60,13 @@ func (w *writer) Next(_ context.Context, wish epoch.Wish) (int64, error) {
 	defer w.lock.Unlock()
 	w.wishes = append(w.wishes, wish)
 	return wish.From + 1, w.err
+}
+
+func (w *writer) Relimit(_ context.Context, asked epoch.Limiting) (script.Answer, error) {
+	w.lock.Lock()
+	defer w.lock.Unlock()
+	w.limits = append(w.limits, asked)
+	return w.answer, w.err
 }
 
 func (w *writer) Status() primary.Status {
@@ -245,7 +251,8 @@ func TestAnotherPrimaryPassesOn(t *testing.T) {
 		t.Error(err, first.places)
 	}
 	// From then on it asks the one that writes.
-	if asker.Tell(context.Background(), place); len(second.places) != 1 || len(first.places) != 2 {
+	asker.Tell(context.Background(), place)
+	if len(second.places) != 1 || len(first.places) != 2 {
 		t.Error(first.places, second.places)
 	}
 	// So do the sites for which there is no answer in time.
@@ -363,7 +370,8 @@ func (r *reader) Read(ctx context.Context, seen site.Seen) (site.Reading, error)
 		<-ctx.Done()
 		return site.Reading{}, &site.BehindError{Has: site.Seen{Epoch: 1, Place: r.place}}
 	}
-	return site.Reading{Shown: &site.Shown{Entry: 9, Epoch: 1, Place: r.place, Values: map[string]int64{"tea": 995}, Limits: []string{"count 3"}},
+	return site.Reading{Shown: &site.Shown{Entry: 9, Epoch: 1, Place: r.place, Acknowledged: 4, Values: map[string]int64{"tea": 995},
+		Imports: map[string]int64{"tea": 3}, Limits: script.Limits{{Scope: "count", Amount: 3}}},
 		Lease: 2 * time.Second}, nil
 }
 
@@ -371,14 +379,14 @@ func TestAReaderIsShownNoLess(t *testing.T) {
 	t.Parallel()
 	reader := &reader{place: 5}
 	address := listenAt(t, func(string) http.Handler { return serve.NewSite(config(nil), "north", reader) })
-	showing := `"site":"north","epoch":1,"place":5,"seen":"1.5","lease_seconds":2,"limits":["count 3"]`
+	showing := `"site":"north","epoch":1,"place":5,"seen":"1.5","acknowledged":4,"lease_seconds":2,"limits":["count 3"]`
 	for _, row := range []struct {
 		path   string
 		status int
 		want   string
 	}{
-		{"/value/tea", 200, `{"object":"tea","value":995,` + showing + `}`},
-		{"/values?seen=1.5", 200, `{"values":{"tea":995},` + showing + `}`},
+		{"/value/tea", 200, `{"object":"tea","value":995,"import":3,` + showing + `}`},
+		{"/values?seen=1.5", 200, `{"values":{"tea":995},"imports":{"tea":3},` + showing + `}`},
 		{"/values?seen=1.6&wait=0.05", 412, `"error":"Behind","message":"the site is at place 5 of epoch 1","epoch":1,"place":5`},
 		{"/value/tea?seen=2.0&wait=0", 412, "Behind"},
 		{"/value/milk", 404, "NoSuchObject"},
@@ -429,23 +437,4 @@ func TestTooManyRequestsAreRefused(t *testing.T) {
 	status, text = ask(t, "GET", address+"/healthz", "")
 	is(t, "health", status, text, 200, "ok")
 	waiting.Wait()
-}
-
-func TestTheTableHasEachError(t *testing.T) {
-	t.Parallel()
-	source, err := os.ReadFile("../wire/wire.go")
-	if err != nil {
-		t.Fatal(err)
-	}
-	for _, err := range []error{primary.ErrBusy, primary.ErrFull, primary.ErrDiffers, primary.ErrMalformed, epoch.ErrNoSite, epoch.ErrOtherScript, epoch.ErrBehind,
-		epoch.ErrOtherWish, epoch.ErrNotYet, site.ErrNotServing, context.DeadlineExceeded, &primary.PassedError{}, &primary.NotWriterError{},
-		&site.BehindError{}, &epoch.CannotBeError{}} {
-		told := serve.ErrorOf(err, wire.Failed)
-		if !strings.Contains(string(source), fmt.Sprintf("//\t%d %s ", told.Status, told.Name)) {
-			t.Errorf("the table has no %d %s", told.Status, told.Name)
-		}
-		if text, err := json.Marshal(told); err != nil || !strings.Contains(string(text), string(told.Name)) {
-			t.Error(string(text), err)
-		}
-	}
 }

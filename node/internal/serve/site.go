@@ -3,7 +3,6 @@ package serve
 import (
 	"context"
 	"errors"
-	"net/http"
 	"strings"
 
 	"ordup.dev/node/internal/site"
@@ -28,8 +27,8 @@ type Site struct {
 func NewSite(config Config, name string, reader Reader) *Site {
 	served := &Site{newServer(config), name, reader, room{most: int64(config.Requests) / 2}}
 	room := &room{most: int64(config.Requests)}
-	served.answers(wire.ValuePath, route{http.MethodGet, Clients, 0, room, sees, served.value})
-	served.answers(wire.ValuesPath, route{http.MethodGet, Clients, 0, room, sees, served.values})
+	served.answers(wire.ValuePath, room, served.value)
+	served.answers(wire.ValuesPath, room, served.values)
 	return served
 }
 
@@ -43,7 +42,7 @@ func (s *Site) value(ctx context.Context, asked *request) (any, error) {
 	if !isThere {
 		return nil, wire.NewError(wire.NoSuchObject, "the site has no such object")
 	}
-	return wire.Value{Object: name, Value: value, Showing: showing}, nil
+	return wire.Value{Object: name, Value: value, Import: reading.Imports[name], Showing: showing}, nil
 }
 
 func (s *Site) values(ctx context.Context, asked *request) (any, error) {
@@ -51,7 +50,7 @@ func (s *Site) values(ctx context.Context, asked *request) (any, error) {
 	if err != nil {
 		return nil, err
 	}
-	return wire.Values{Values: reading.Values, Showing: showing}, nil
+	return wire.Values{Values: reading.Values, Imports: reading.Imports, Showing: showing}, nil
 }
 
 func (s *Site) read(ctx context.Context, asked *request) (reading site.Reading, showing wire.Showing, err error) {
@@ -67,7 +66,7 @@ func (s *Site) read(ctx context.Context, asked *request) (reading site.Reading, 
 		return reading, showing, err
 	}
 	return reading, wire.Showing{Site: s.name, Epoch: reading.Epoch, Place: reading.Place, Seen: wire.SeenText(reading.Epoch, reading.Place),
-		Lease: reading.Lease.Seconds(), Limits: reading.Limits}, nil
+		Acknowledged: reading.Acknowledged, Lease: reading.Lease.Seconds(), Limits: reading.Limits.Texts()}, nil
 }
 
 // readOrWait waits where the site is behind what was seen, and too many do not wait yet.

@@ -144,35 +144,66 @@ func isSwitch(found *flag.Flag) bool {
 }
 
 func (s *Set) readFile(text string, isKnown func(string) bool) error {
-	isGiven := map[string]bool{}
-	s.flags.Visit(func(given *flag.Flag) { isGiven[given.Name] = true })
-	isThere := map[string]bool{}
-	for at, line := range strings.Split(text, "\n") {
-		line = strings.TrimSpace(line)
-		if line == "" || line[0] == '#' {
-			continue
-		}
-		key, value, isPair := strings.Cut(line, "=")
-		key, value = strings.TrimSpace(key), strings.TrimSpace(value)
-		var err error
-		switch {
-		case !isPair:
-			err = fmt.Errorf("%.60q is not `key = value`", line)
-		case isThere[key]:
-			err = fmt.Errorf("the key %s stands there twice", key)
-		case key == fileKey || !s.Has(key) && !isKnown(key):
-			err = fmt.Errorf("there is no key %.60q", key)
-		case s.Has(key) && !isGiven[key]:
-			if err = s.flags.Set(key, value); err != nil {
-				err = fmt.Errorf("%.60q for %s: %w", value, key, err)
-			}
+	isGiven := s.Given()
+	for _, line := range Lines(text, func(key string) bool { return s.Has(key) || isKnown(key) }) {
+		err := line.Err
+		if err == nil && s.Has(line.Key) && !isGiven[line.Key] {
+			err = s.Put(line.Key, line.Value)
 		}
 		if err != nil {
-			return fmt.Errorf("%s, line %d: %w", s.file, at+1, err)
+			return fmt.Errorf("%s, line %d: %w", s.file, line.Number, err)
 		}
-		isThere[key] = true
 	}
 	return nil
+}
+
+// File is the name of the file with settings, or "".
+func (s *Set) File() string { return s.file }
+
+// Given are the keys that have a value.
+func (s *Set) Given() map[string]bool {
+	isGiven := map[string]bool{}
+	s.flags.Visit(func(given *flag.Flag) { isGiven[given.Name] = true })
+	return isGiven
+}
+
+// Put gives a setting its value.
+func (s *Set) Put(key, value string) error {
+	if err := s.flags.Set(key, value); err != nil {
+		return fmt.Errorf("%.60q for %s: %w", value, key, err)
+	}
+	return nil
+}
+
+// A Line is a setting in a file, or an error in place of one.
+type Line struct {
+	Number     int
+	Key, Value string
+	Err        error
+}
+
+// Lines gives the settings of a file. isKnown is whether a key may stand there.
+func Lines(text string, isKnown func(key string) bool) []Line {
+	lines, isThere := []Line{}, map[string]bool{}
+	for at, text := range strings.Split(text, "\n") {
+		text = strings.TrimSpace(text)
+		if text == "" || text[0] == '#' {
+			continue
+		}
+		key, value, isPair := strings.Cut(text, "=")
+		line := Line{Number: at + 1, Key: strings.TrimSpace(key), Value: strings.TrimSpace(value)}
+		switch {
+		case !isPair:
+			line.Err = fmt.Errorf("%.60q is not `key = value`", text)
+		case isThere[line.Key]:
+			line.Err = fmt.Errorf("the key %s stands there twice", line.Key)
+		case line.Key == fileKey || !isKnown(line.Key):
+			line.Err = fmt.Errorf("there is no key %.60q", line.Key)
+		}
+		isThere[line.Key] = true
+		lines = append(lines, line)
+	}
+	return lines
 }
 
 // Help is a line for each setting, in the order of their keys.

@@ -1,7 +1,7 @@
 // Package sim simulates a deployment of the node in one thread: what its processes decide is the code of the node, and all else is here.
 //
 // There are two primaries, two processes of the site north, the fleet far with a process of each of its sites east and west, clients that
-// ask again, and operators. A Run is a list of events. What an event means stands at its Kind; one that cannot happen is passed over, so
+// ask again, and operators, who change limits too. A Run is a list of events. What an event means stands at its Kind; one that cannot happen is passed over, so
 // each part of a list is a run too. Generate gives the run of a seed, Try does a run, and Shrink leaves out what it does not need to break
 // the same property.
 //

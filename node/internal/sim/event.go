@@ -58,11 +58,13 @@ const (
 	Finds
 	// Forges has processes be given entries that no right primary writes, of the kind How.
 	Forges
+	// Relimits has an operator ask the primary Who for another limit of a site, by bits of How.
+	Relimits
 	kinds
 )
 
 var kindNames = [kinds]string{"passes", "calms", "leads", "lapses", "drops", "stands", "works", "writes", "dies", "looks", "comes", "leases",
-	"follows", "tells", "arrives", "reads", "falls", "asks", "wishes", "hands", "ends", "archives", "lists", "finds", "forges"}
+	"follows", "tells", "arrives", "reads", "falls", "asks", "wishes", "hands", "ends", "archives", "lists", "finds", "forges", "relimits"}
 
 // What may become of a call: it is done and answered; it is done, and its answer comes by the next event of the process; it is done, and
 // its answer is lost; its answer is lost, and it may be done later; it is never done.
@@ -89,7 +91,7 @@ const primaries, processes = 2, 4
 
 // A Run is a deployment, and what happens to it.
 type Run struct {
-	// Limits are those of the sites north and far, and Every is how many requests an epoch takes.
+	// Limits are those with which the sites north and far begin, and Every is how many requests an epoch takes.
 	Limits [2]byte
 	Every  byte
 	// Rates are those of the clocks of the processes of sites, in hundredths of the engine's.

@@ -31,7 +31,7 @@ func (c *chance) pick(weights []int) int {
 
 // weights are how often what happens.
 var weights = [kinds]int{Passes: 20, Calms: 12, Leads: 5, Lapses: 2, Drops: 3, Stands: 4, Works: 16, Writes: 18, Dies: 2, Looks: 6, Comes: 7, Leases: 28,
-	Follows: 20, Tells: 16, Arrives: 16, Reads: 20, Falls: 4, Asks: 28, Wishes: 7, Hands: 2, Ends: 10, Archives: 3, Lists: 2, Finds: 4, Forges: 1}
+	Follows: 20, Tells: 16, Arrives: 16, Reads: 20, Falls: 4, Asks: 28, Wishes: 7, Hands: 2, Ends: 10, Archives: 3, Lists: 2, Finds: 4, Forges: 1, Relimits: 6}
 
 var fateWeights = [fates]int{done: 12, doneAndSlow: 3, doneAndLost: 2, late: 3, never: 1}
 
@@ -53,7 +53,7 @@ func (c *chance) start() []Event {
 	return []Event{calm}
 }
 
-// Generate gives the run of a seed. Of each seed some things happen often, and others never.
+// Generate gives the run of a seed. Of each seed some things happen often, and others never. Of a quarter of the seeds some happen in scenes.
 func Generate(seed int64) *Run {
 	c := chance(seed)
 	c.next()
@@ -68,8 +68,18 @@ func Generate(seed int64) *Run {
 	weights[Passes]++ // Something happens.
 	count := 60 + c.below(90)
 	run.Events = make([]Event, 0, count)
-	run.Events = append(run.Events, c.start()...)
+	var scenes *cast
+	if c.below(4) == 0 {
+		scenes = c.cast()
+		run.Events = append(run.Events, c.stage(scenes)...)
+	} else {
+		run.Events = append(run.Events, c.start()...)
+	}
 	for len(run.Events) < count {
+		if scenes != nil && c.below(8) > 0 {
+			run.Events = append(run.Events, c.scene(scenes)...)
+			continue
+		}
 		event := Event{Kind: Kind(c.pick(weights[:]))}
 		switch event.Kind {
 		case Writes, Leases:
@@ -164,4 +174,5 @@ func (c *Counts) Add(other *Counts) {
 	c.Terms, c.Places, c.Reads = c.Terms+other.Terms, c.Places+other.Places, c.Reads+other.Reads
 	c.Gones, c.Left, c.LateCalls = c.Gones+other.Gones, c.Left+other.Left, c.LateCalls+other.LateCalls
 	c.Forged, c.Removed, c.Wishes = c.Forged+other.Forged, c.Removed+other.Removed, c.Wishes+other.Wishes
+	c.Relimits, c.RefusedLimits, c.Imports = c.Relimits+other.Relimits, c.RefusedLimits+other.RefusedLimits, c.Imports+other.Imports
 }

@@ -42,6 +42,8 @@ const (
 	ValuesDiffer Property = "VALUES_DIFFER"
 	// A right process can run the script, write it on, and does not panic.
 	RightProcessFails Property = "RIGHT_PROCESS_FAILS"
+	// A reader and an operator are told the limits that are in force, and what is acknowledged, by the entry that is shown. They go on.
+	LimitsDiffer Property = "LIMITS_DIFFER"
 	// An entry that no right primary writes is refused by whoever runs the script.
 	WriterIsBelieved Property = "WRITER_IS_BELIEVED"
 )
@@ -94,6 +96,12 @@ type judge struct {
 	// From the first epoch on, what was told for each site of the script, and what clients were told as acknowledged.
 	told         map[string]int64
 	acknowledged int64
+	// The limits in force, whether an operator gave declarations for the next epoch, what the script says of limits, and what readers are to be
+	// told after each entry.
+	limits   map[string]int64
+	isWanted bool
+	said     map[string]bool
+	after    map[int64]told
 }
 
 var objects = [2]string{"tea", "till"}
@@ -101,7 +109,7 @@ var objects = [2]string{"tea", "till"}
 func newJudge(counts *Counts, fails func(Property, string, ...any)) *judge {
 	return &judge{fails: fails, counts: counts, begun: map[int64]int64{}, sites: map[string]standing{}, gone: map[string]bool{}, left: map[string]bool{}, last: map[string]int64{},
 		requests: map[request]*scripted{}, settings: map[int64]script.Settings{}, wishes: map[int64]bool{}, told: map[string]int64{},
-		values: [][2]int64{{100, 0}}}
+		values: [][2]int64{{100, 0}}, limits: map[string]int64{}, said: map[string]bool{}, after: map[int64]told{}}
 }
 
 // written judges an entry that is written behind the others.
@@ -130,6 +138,14 @@ func (j *judge) written(number int64, text []byte) {
 	}
 	for at := range entry.Steps {
 		j.step(&entry.Steps[at], refused)
+	}
+	is := told{map[string]int64{}, j.acked}
+	for site, limit := range j.limits {
+		is.limits[site] = limit
+	}
+	j.after[number] = is
+	if entry.Begins() {
+		j.isWanted = false
 	}
 }
 
@@ -188,8 +204,12 @@ func (j *judge) step(step *script.Step, refused map[request]bool) {
 		site.gone = true
 		j.counts.Gones++
 		j.sites[step.Site], j.gone[step.Site] = site, true
+	case script.Relimit:
+		j.relimit(step)
+	case script.Want:
+		j.isWanted = true
 	case script.Wish:
-		j.wished = true
+		j.wished, j.isWanted = true, false
 		j.settings[j.epoch+1] = *step.Settings
 	case script.Answered:
 		j.answer(named, step)
@@ -202,6 +222,8 @@ func (j *judge) declare(words []string) {
 		j.sites[words[1]] = standing{}
 		delete(j.gone, words[1])
 		j.tells(words[1], j.before) // One that is new, or comes back, begins with the values of the epoch.
+	case "limit":
+		j.limit(words[1], words[3])
 	case "object":
 		has := j.values[len(j.values)-1]
 		for at, name := range objects {
@@ -300,9 +322,9 @@ type glance struct {
 	isGone bool
 }
 
-// glance gives what a reader of a site is to see, of which its own process has told so much, and where the limit of the site is this.
-func (j *judge) glance(site string, own, limit int64) glance {
-	least := j.told[site]
+// glance gives what a reader of a site is to see, of which its own process has told so much.
+func (j *judge) glance(site string, own int64) glance {
+	least, limit := j.told[site], j.limits[site]
 	for _, other := range []int64{own, j.before + j.acked - limit, j.acknowledged - limit} {
 		if other > least {
 			least = other

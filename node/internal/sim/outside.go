@@ -89,6 +89,18 @@ func (w *world) wish(writer *primary, how byte) {
 	writer.nexts = append(writer.nexts, wish)
 }
 
+// relimit has an operator ask for another limit of the site north, or far (1): 0, 1, 2 or 5 (2 to 6), of a site that there is not (120 on).
+func (w *world) relimit(writer *primary, how byte) {
+	asked := epoch.Limiting{Site: siteNames[how&1], Limit: script.Limit{Scope: "count", Amount: [...]int64{0, 1, 2, 5}[how>>1&3]}}
+	if how >= 120 {
+		asked.Site = "nowhere"
+	}
+	if writer.mayTake() {
+		w.note("an operator asks %s for %s %s", writer.own, asked.Site, asked.Limit)
+		writer.limits = append(writer.limits, &limitCall{asked: asked})
+	}
+}
+
 // list has the process of the fleet be started anew, with both its sites or with one alone.
 func (w *world) list(how byte) {
 	w.listed = []string{"east", "west"}[:2-how%2]
@@ -96,7 +108,7 @@ func (w *world) list(how byte) {
 }
 
 // find has the fleet look for keys.
-func (w *world) find() { w.fleet.Look(nil, w) }
+func (w *world) find() { w.fleet.Look(context.Background(), w) }
 
 // SiteKeys gives the keys under the name of the fleet.
 func (w *world) SiteKeys(_ context.Context, name string) ([]engine.Key, error) {
@@ -117,7 +129,8 @@ func (w *world) Tell(_ context.Context, place epoch.Place) error {
 }
 
 // forge gives whoever runs the script an entry that no right primary writes: a number that was asked before (0), a place beyond the updates
-// (1), a site that is gone and was not taken out (2), or the next epoch before the end of this one (3).
+// (1), a site that is gone and was not taken out (2), the next epoch before the end of this one (3), or a limit from another update on than
+// the head (4).
 func (w *world) forge(how byte) {
 	j := w.judge
 	if j.epoch == 0 || len(j.carried) > 0 {
@@ -125,7 +138,7 @@ func (w *world) forge(how byte) {
 	}
 	step := script.Step{}
 	entry := &script.Entry{Epoch: j.epoch, Ordup: versions[0], Writer: "forged"}
-	switch how % 4 {
+	switch how % 5 {
 	case 0:
 		if j.last["ann"] == 0 {
 			return
@@ -142,6 +155,8 @@ func (w *world) forge(how byte) {
 		settings := j.settings[j.epoch]
 		entry.Epoch++
 		step = script.Step{Kind: script.Begin, Settings: &settings}
+	case 4:
+		step = script.Step{Kind: script.Relimit, Site: "north", Limit: script.Limit{Scope: "count", Amount: 9}, Answer: script.Answer{Place: j.acked + 2}}
 	}
 	entry.Steps = append(entry.Steps, step)
 	if entry.Begins() {

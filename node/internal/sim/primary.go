@@ -41,6 +41,8 @@ type primary struct {
 	waiting   []*call
 	nexts     []*epoch.Wish
 	wishes    []*epoch.Wish
+	limits    []*limitCall
+	limited   []*limitCall
 	roundsWas int64
 }
 
@@ -168,6 +170,7 @@ func (p *primary) endIfOver() {
 // end has the process stand by. All who wait are told that it does not write.
 func (p *primary) end() {
 	p.mode, p.flight, p.queue, p.waiting, p.nexts, p.wishes = stands, nil, nil, nil, nil, nil
+	p.limits, p.limited = nil, nil
 }
 
 // write has the engine meet what is on its way.
@@ -250,6 +253,10 @@ func (p *primary) work() {
 		came, p.queue = p.queue, nil
 	}
 	p.takeWishes()
+	if err := p.takeLimits(now); err != nil {
+		p.fails("change a limit", err)
+		return
+	}
 	if err := p.ask(came, now); err != nil {
 		p.fails("take requests", err)
 		return
@@ -259,6 +266,7 @@ func (p *primary) work() {
 		return
 	}
 	p.tellWishes()
+	p.tellLimits()
 	batch, err := p.writer.Seal(p.core, &p.digests, now)
 	if err != nil {
 		p.fails("seal", err)

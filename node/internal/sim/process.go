@@ -1,6 +1,7 @@
 package sim
 
 import (
+	"context"
 	"errors"
 	"fmt"
 	"time"
@@ -226,26 +227,19 @@ func (p *process) lose(step lease.Step) {
 	}
 }
 
-// limit is that of the site.
-func (p *process) limit() int64 {
-	if p.site == "north" {
-		return int64(p.world.run.Limits[0])
-	}
-	return int64(p.world.run.Limits[1])
-}
-
 // lookNow looks at what may be told. So many events happen between one look, at the values or at the lease, and the next. It also gives what
 // a reader is to see who takes these values, and is false where the process ended meanwhile.
 func (p *process) lookNow(within byte) (now site.Moment, must glance, isThere bool) {
 	life, looks := p.lives, 0
 	between := func() {
-		if looks++; looks > 1 {
+		looks++
+		if looks > 1 {
 			p.world.within(within)
 		}
 	}
 	now = site.Look(func() site.View {
 		between()
-		must = p.world.judge.glance(p.site, p.world.toldBy[p.key], p.limit())
+		must = p.world.judge.glance(p.site, p.world.toldBy[p.key])
 		return p.view
 	}, func(term lease.Term) bool {
 		between()
@@ -265,6 +259,7 @@ func (p *process) read(within byte) {
 	place := p.world.judge.place(shown.Epoch, shown.Place)
 	p.world.note("%s serves the place %d of epoch %d", p.own, shown.Place, shown.Epoch)
 	p.world.judge.serves(p.own, place, shown.Values, must)
+	p.world.judge.tellsBesides(p.own, p.site, shown)
 }
 
 // A message is a place that was told.
@@ -310,7 +305,7 @@ func (w *world) arrive(back, how byte) {
 		err = w.takePlace(writer, came.place)
 	} else {
 		w.fleetTells = writer
-		err = w.fleet.Tell(nil, came.place)
+		err = w.fleet.Tell(context.Background(), came.place)
 	}
 	process := came.process
 	w.note("%s has of its place: %v", process.own, err)

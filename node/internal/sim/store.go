@@ -12,7 +12,7 @@ import (
 )
 
 // A model is a store of ordup, as package modelstore has one, without any text between it and who asks it: a run opens hundreds. It knows
-// objects, sites, limits by count and requests to add.
+// objects, sites, limits by count, which change, requests to add, and a query.
 type model struct {
 	objects  []string
 	values   []int64
@@ -22,6 +22,9 @@ type model struct {
 	round    []*modelSite
 	isRound  bool
 	isOpened bool
+	// The site at which the one query reads, and its reference.
+	reads *modelSite
+	place int
 }
 
 type added struct {
@@ -95,6 +98,10 @@ func (m *model) answer(kind, rest string) answer.Answer {
 		return m.propose(rest)
 	case "settle":
 		return m.settle()
+	case "relimit":
+		return m.relimit(rest)
+	case "begin", "read", "abandon":
+		return m.query(kind, rest)
 	}
 	if site := m.of(rest); site != nil {
 		return m.move(kind, site)
@@ -219,4 +226,58 @@ func (m *model) move(kind string, site *modelSite) answer.Answer {
 		return answer.Shown{Site: site.name, Sent: uint64(site.sent), Applied: uint64(site.applied), Reported: uint64(site.reported), Values: values}
 	}
 	return refuse(1, "Syntax")
+}
+
+// relimit takes another limit of a site: SITE count NUMBER.
+func (m *model) relimit(rest string) answer.Answer {
+	name, rest, _ := strings.Cut(rest, " ")
+	scope, number, _ := strings.Cut(rest, " ")
+	limit, err := strconv.Atoi(number)
+	site := m.of(name)
+	switch {
+	case err != nil || scope != "count":
+		return refuse(1, "Syntax")
+	case site == nil:
+		return refuse(8, "UnknownSite")
+	case m.isRound:
+		return refuse(24, "HeadPending")
+	case m.acked-site.reported > limit:
+		return refuse(25, "LagOver")
+	}
+	site.limit = limit
+	return answer.Relimited{Site: name, Place: uint64(m.acked + 1)}
+}
+
+// query begins and ends the one query, and reads by it.
+func (m *model) query(kind, rest string) answer.Answer {
+	query, rest, _ := strings.Cut(rest, " ")
+	switch kind {
+	case "abandon":
+		return answer.Abandoned{Query: query}
+	case "begin":
+		name, _, _ := strings.Cut(rest, " ")
+		m.reads, m.place = m.of(name), m.acked
+		return answer.Begun{Query: query, Place: uint64(m.place)}
+	}
+	from, to := m.reads.applied, m.place
+	if from > to {
+		from, to = to, from
+	}
+	read := answer.Read{Query: query, Object: rest}
+	for at, name := range m.objects {
+		if name != rest {
+			continue
+		}
+		read.Value = m.reads.values[at]
+		for _, change := range m.log[from:to] {
+			switch {
+			case change.object != at:
+			case change.number < 0:
+				read.Imported += uint64(-change.number)
+			default:
+				read.Imported += uint64(change.number)
+			}
+		}
+	}
+	return read
 }

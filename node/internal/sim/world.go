@@ -15,6 +15,7 @@ import (
 type Counts struct {
 	Events, Entries, TakeOvers, Refusals, Epochs, Rounds, Answers, Passed, Differs int
 	Terms, Places, Reads, Gones, Left, LateCalls, Forged, Removed, Wishes          int
+	Relimits, RefusedLimits, Imports                                               int
 }
 
 // Outcome is what came of a run.
@@ -206,6 +207,8 @@ func (w *world) happens(event Event) {
 		w.find()
 	case Forges:
 		w.forge(event.How)
+	case Relimits:
+		w.relimit(writer, event.How)
 	}
 }
 
@@ -239,7 +242,8 @@ func (w *world) calm(how byte) {
 			process.step(done)
 		}
 		told := len(w.messages)
-		if process.tell(0); len(w.messages) > told {
+		process.tell(0)
+		if len(w.messages) > told {
 			w.arrive(0, byte(writer.index))
 		}
 	}

@@ -94,8 +94,7 @@ func (s *Shown) covers(seen Seen) bool {
 // a count may be reached by one update.
 func (s *Shown) isFar() bool {
 	for _, limit := range s.Limits {
-		var most int64
-		if count, _ := fmt.Sscanf(limit, "count %d", &most); count != 1 || s.Place-s.Told > most/4 {
+		if limit.Scope != "count" || s.Place-s.Told > limit.Amount/4 {
 			return false
 		}
 	}

@@ -28,10 +28,12 @@ type Shown struct {
 	Entry, Epoch, Place int64
 	// Told is how many updates the script says that the site has told.
 	Told int64
-	// Values are those of all objects.
-	Values map[string]int64
-	// Limits are those of the site, as `count 3`.
-	Limits []string
+	// Acknowledged is how many updates are acknowledged.
+	Acknowledged int64
+	// Values are those of all objects. Imports says how far those that differ from what the acknowledged updates make of them may do so.
+	Values, Imports map[string]int64
+	// Limits are those of the site.
+	Limits script.Limits
 	// Digest is that of the entry, as the engine has it.
 	Digest string
 }
@@ -60,11 +62,11 @@ type Replica struct {
 	entry int64
 	epoch int64
 	sites map[string]bool
-	// The limits that the epoch declares for the site, as `count 3`.
-	limits []string
-	place  int64
-	told   int64
-	text   []byte
+	place int64
+	told  int64
+	// How many updates the store knows as acknowledged.
+	acked int64
+	text  []byte
 }
 
 // NewReplica gives one before the entry of a number, which is the first one of an epoch.
@@ -109,6 +111,12 @@ func (r *Replica) Replay(number int64, entry *script.Entry) error {
 	if err := r.propose(entry); err != nil {
 		return err
 	}
+	if err := r.acknowledge(); err != nil {
+		return err
+	}
+	if err := r.relimit(entry); err != nil {
+		return err
+	}
 	return r.heed(entry)
 }
 
@@ -123,7 +131,7 @@ func (r *Replica) begin(number int64, entry *script.Entry) error {
 	if err != nil {
 		return fmt.Errorf("begin the epoch %d: %w", entry.Epoch, err)
 	}
-	r.epoch, r.place, r.told, r.sites, r.limits = entry.Epoch, 0, 0, map[string]bool{}, []string{}
+	r.epoch, r.place, r.told, r.acked, r.sites = entry.Epoch, 0, 0, 0, map[string]bool{}
 	lines := []byte{}
 	for at := range entry.Steps {
 		step := &entry.Steps[at]
@@ -132,8 +140,8 @@ func (r *Replica) begin(number int64, entry *script.Entry) error {
 		case step.Kind != script.Declare || len(words) < 3:
 		case words[0] == "site":
 			r.sites[words[1]] = true
-		case words[0] == "limit" && words[1] == r.name:
-			r.limits = append(r.limits, strings.Join(words[2:], " "))
+		case words[0] == "group":
+			lines = step.AppendLines(lines)
 		case words[0] == "object":
 			lines = step.AppendLines(lines)
 			if value, isThere := before[words[1]]; isThere && strconv.FormatInt(value, 10) != words[2] {
@@ -275,7 +283,12 @@ func (r *Replica) Show() (*Shown, error) {
 	if err != nil || r.store == nil {
 		return nil, err
 	}
-	return &Shown{Entry: r.entry, Epoch: r.epoch, Place: r.place, Told: r.told, Values: values, Limits: r.limits}, nil
+	imports, err := r.imports(values)
+	if err != nil {
+		return nil, err
+	}
+	return &Shown{Entry: r.entry, Epoch: r.epoch, Place: r.place, Told: r.told, Acknowledged: r.acked, Values: values, Imports: imports,
+		Limits: r.judge.LimitsOf(r.name)}, nil
 }
 
 // values are those that the store shows.

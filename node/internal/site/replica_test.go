@@ -95,10 +95,44 @@ func TestASiteShowsWhatTheScriptComesTo(t *testing.T) {
 	script.write()
 	shown, err := script.replay(at("south"))
 	is(t, nil, err)
-	is(t, "{3 1 2 1 map[tea:95 till:7] [] }", *shown)
+	is(t, "{3 1 2 1 2 map[tea:95 till:7] map[] [] }", *shown)
 	shown, err = script.replay(at("north"))
 	is(t, nil, err)
 	is(t, int64(0), shown.Told)
+}
+
+// A reader is told the limits that are in force, and how far the updates that are not acknowledged move the values.
+func TestWhatASiteTellsBesideTheValues(t *testing.T) {
+	t.Parallel()
+	written := newWritten(t)
+	to := epoch.Limiting{Site: "north", Limit: script.Limit{Scope: "count", Amount: 1}}
+	limited, err := written.core.AskLimit(to, time.Hour)
+	is(t, nil, err)
+	is(t, epoch.Limited{Entry: 2, Answer: script.Answer{Place: 1, Epoch: 1}}, limited)
+	written.ask("ann", 1, "add:tea:-5")
+	written.ask("ann", 2, "add:tea:3 add:till:1")
+	written.ask("ann", 3, "add:tea:-4")
+	written.write()
+	shown, err := written.replay(at("north"))
+	is(t, nil, err)
+	is(t, "{2 1 3 0 1 map[tea:94 till:1] map[tea:7 till:1] [count 1] }", *shown)
+	shown, err = written.replay(at("south"))
+	is(t, nil, err)
+	is(t, "[]", shown.Limits.Texts())
+	// Once all is acknowledged no value is off.
+	written.tell("north", 3)
+	written.write()
+	shown, err = written.replay(at("north"))
+	is(t, nil, err)
+	is(t, []any{int64(3), 0}, []any{shown.Acknowledged, len(shown.Imports)})
+	// What no store takes is not believed.
+	forged := *written.entries[len(written.entries)-1]
+	forged.Steps = []script.Step{{Kind: script.Relimit, Site: "north", Limit: script.Limit{Scope: "object milk", Amount: 1}, Answer: script.Answer{Place: 4}}}
+	written.entries = append(written.entries, &forged)
+	var broken *epoch.BrokenError
+	if _, err = written.replay(at("north")); !errors.As(err, &broken) {
+		t.Error(err)
+	}
 }
 
 func TestMoreUpdatesThanTheFeedHas(t *testing.T) {

@@ -235,7 +235,7 @@ func (s *Site) tellAll(ctx context.Context) error {
 	for ctx.Err() == nil {
 		relies := s.lease.Changed()
 		now, changed := s.now()
-		isDue, again := isDue(now.Shown, &told, clock.Now()-time.Duration(s.toldAt.Load()))
+		isDue, again := IsDue(now.Shown, &told, clock.Now()-time.Duration(s.toldAt.Load()))
 		if !isDue && (now.Shown == nil || now.IsTaken) {
 			timer := time.NewTimer(again)
 			select {
@@ -253,7 +253,7 @@ func (s *Site) tellAll(ctx context.Context) error {
 			told = place
 			s.wasTaken(now.Term)
 		case IsRefused(err):
-			return err
+			return fmt.Errorf("tell the place %d of epoch %d: %w", place.Applied, place.Epoch, err)
 		case ctx.Err() == nil:
 			s.config.Log.Warn("place-not-told", "why", err)
 			clock.Pause(ctx, afterFailure)

@@ -12,6 +12,7 @@ import (
 	"ordup.dev/node/internal/engine"
 	"ordup.dev/node/internal/epoch"
 	"ordup.dev/node/internal/etcdtest"
+	"ordup.dev/node/internal/script"
 )
 
 type nowhere struct{}
@@ -111,6 +112,16 @@ func TestASiteTellsNothingWithoutTheLease(t *testing.T) {
 	is(t, nil, <-ended)
 }
 
+// limitsOf are limits as declarations have them.
+func limitsOf(texts []string) script.Limits {
+	limits := script.Limits{}
+	for _, text := range texts {
+		limit, _ := script.ParseLimit(text)
+		limits = append(limits, limit)
+	}
+	return limits
+}
+
 // A place is told at once where somebody may wait for it, and else so often at most.
 func TestWhenAPlaceIsTold(t *testing.T) {
 	for _, row := range []struct {
@@ -133,17 +144,17 @@ func TestWhenAPlaceIsTold(t *testing.T) {
 		{nil, 9, 9, false, tellStill, true, 0},
 	} {
 		t.Run(fmt.Sprint(row), func(t *testing.T) {
-			shown, told := &Shown{Epoch: 1, Place: row.place, Told: row.told, Limits: row.limits}, &epoch.Place{Epoch: 1, Applied: row.place}
+			shown, told := &Shown{Epoch: 1, Place: row.place, Told: row.told, Limits: limitsOf(row.limits)}, &epoch.Place{Epoch: 1, Applied: row.place}
 			if row.isNew {
 				told.Applied--
 			}
-			isDue, again := isDue(shown, told, row.since)
+			isDue, again := IsDue(shown, told, row.since)
 			if isDue != row.isDue || !isDue && again != row.again-row.since {
 				t.Errorf("%v: %v, %v", row, isDue, again)
 			}
 		})
 	}
-	isDue, again := isDue(nil, &epoch.Place{}, 0)
+	isDue, again := IsDue(nil, &epoch.Place{}, 0)
 	is(t, []any{false, tellAgain}, []any{isDue, again})
 }
 

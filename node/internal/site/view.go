@@ -57,9 +57,9 @@ func PlaceOf(inName, name string, shown *Shown) epoch.Place {
 	return epoch.Place{Site: inName, Member: name, Epoch: shown.Epoch, Applied: shown.Place, Entry: shown.Entry, Digest: shown.Digest}
 }
 
-// isDue is whether what is shown is to be told now, after what was told last and so long after a place was taken last, and else after how
+// IsDue is whether what is shown is to be told now, after what was told last and so long after a place was taken last, and else after how
 // long it may be.
-func isDue(shown *Shown, told *epoch.Place, since time.Duration) (isDue bool, again time.Duration) {
+func IsDue(shown *Shown, told *epoch.Place, since time.Duration) (isDue bool, again time.Duration) {
 	if shown == nil {
 		return false, tellAgain
 	}

@@ -1,42 +1,67 @@
 package wire
 
 import (
-	"os"
-	"regexp"
-	"strconv"
+	"net/http"
+	"reflect"
 	"testing"
 
 	"ordup.dev/node/internal/exit"
 )
 
-// The table of the package comment has the names and the statuses of the errors, and says of which one may ask again.
-func TestTheTableHasTheErrors(t *testing.T) {
+// Each path and each error says what it is, each field of a body too, and each error comes at some path.
+func TestTheTablesSayAll(t *testing.T) {
 	t.Parallel()
-	source, err := os.ReadFile("wire.go")
-	if err != nil {
-		t.Fatal(err)
-	}
-	told := map[Name]bool{}
-	for _, words := range regexp.MustCompile(`(?m)^//\t(\d{3}) (\w+) +(.*)$`).FindAllStringSubmatch(string(source), -1) {
-		name := Name(words[2])
-		told[name] = true
-		t.Run(words[2], func(t *testing.T) {
-			if err := NewError(name, ""); strconv.Itoa(err.Status) != words[1] || err.Error() != words[2] {
-				t.Errorf("%d %s", err.Status, err)
+	comes, said := map[Name]bool{}, map[string]bool{}
+	for _, path := range Paths {
+		if path.Does == "" || (path.Again == "") != (path.Method == http.MethodGet) || len(path.At) == 0 ||
+			(path.Answer == nil) == (path.Type == "") || (path.Body == nil) != (path.MostBody == 0) {
+			t.Errorf("a row lacks something: %+v", path)
+		}
+		for _, name := range path.Errors() {
+			comes[name] = true
+		}
+		for _, name := range path.Own {
+			if name.Status() == 0 {
+				t.Errorf("%s has no row of an error %s", path.Path, name)
 			}
-			says := regexp.MustCompile(`Ask again|again$`).MatchString(words[3])
-			if may := name.Again() != Never; says != may && name != TooSlow {
-				t.Errorf("it may be asked again: %v, and the table says %v", may, says)
-			}
-		})
-	}
-	for name := range rows {
-		if !told[name] {
-			t.Errorf("the table has no %s", name)
+		}
+		if PathOf(path.Path).Does != path.Does {
+			t.Errorf("two rows have the path %s", path.Path)
 		}
 	}
-	if len(told) != len(rows) {
-		t.Errorf("%d names of %d", len(told), len(rows))
+	for _, name := range Names() {
+		if !comes[name] || name.Says() == "" || said[name.Says()] {
+			t.Errorf("%s comes at some path: %v, and is %q", name, comes[name], name.Says())
+		}
+		said[name.Says()] = true
+	}
+	if len(said) != len(byName) || len(said) < 28 {
+		t.Errorf("%d errors, %d of them with names of their own", len(said), len(byName))
+	}
+	for _, body := range bodies() {
+		for _, field := range fieldsOf(body) {
+			if field.name == "" || field.says == "" {
+				t.Errorf("%s has a field without its name, or without its tag `says`: %+v", body, field)
+			}
+		}
+	}
+}
+
+// Who reads the status alone knows whether to ask again: clients that know no names do.
+func TestAStatusSaysWhetherToAskAgain(t *testing.T) {
+	t.Parallel()
+	again := map[int]bool{408: true, 500: true, 503: true, 504: true, 507: true}
+	for _, name := range Names() {
+		if may := name.Again() != Never; may != again[name.Status()] {
+			t.Errorf("%d %s may be asked again: %v", name.Status(), name, may)
+		}
+	}
+}
+
+func TestAnErrorSaysItsNameWhereItHasNoMessage(t *testing.T) {
+	t.Parallel()
+	if err := NewError(Busy, ""); err.Error() != "Busy" || err.Status != 503 || err.Name.Again() != Here {
+		t.Error(err, err.Status)
 	}
 }
 
@@ -44,7 +69,18 @@ func TestTheTableHasTheErrors(t *testing.T) {
 func TestANameThatNobodyKnows(t *testing.T) {
 	t.Parallel()
 	err := &Error{Status: 418, Name: "Teapot"}
-	if err.Name.Again() != Never || err.ExitStatus() != exit.Environment || err.Error() != "Teapot" {
+	if err.Name.Again() != Never || err.ExitStatus() != exit.Environment || err.Error() != "Teapot" || err.Name.Says() != "" {
 		t.Error(err.Name.Again(), err.ExitStatus(), err)
 	}
+}
+
+// PathOf is asked for paths of the table alone.
+func TestAPathThatIsNotThere(t *testing.T) {
+	t.Parallel()
+	defer func() {
+		if recover() == nil {
+			t.Error("there is a path /nowhere")
+		}
+	}()
+	t.Error(reflect.ValueOf(PathOf("/nowhere")))
 }

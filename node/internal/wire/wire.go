@@ -1,60 +1,10 @@
-// Package wire has what travels by HTTP: paths, bodies in JSON, and the status of each answer. Servers and clients share it.
+// Package wire has what travels by HTTP: the table of paths, bodies in JSON, and the table of errors. Servers take their routes from it,
+// and clients what an answer means. docs/HTTP.md has the tables for users, and openapi.json for programs, both printed by
 //
-//	POST /update           a client asks a primary for an update: Update, answered by Acked once it is acknowledged
-//	POST /place            a site tells a primary or its fleet what it has shown: Place, answered by Done
-//	POST /next             an operator asks a primary for the next epoch: Next, answered by Begun once it has begun
-//	GET  /epoch            an operator asks a primary for the epoch: Begun
-//	GET  /value/OBJECT     a reader asks a site for a value: Value
-//	GET  /values           a reader asks a site for all values: Values
-//	GET  /healthz          whether the process goes on: 200, always with `ok`
-//	GET  /readyz           whether it takes requests now: 200, or 503 and why it does not
-//	GET  /metrics          its numbers, as Prometheus reads them
-//	GET  /                 its numbers as a page for a person
+//	go test ./internal/wire -write
 //
-// A primary that does not write passes /update, /place, /next and /epoch on to the one that does. The header Ordup-Writer of an answer
-// names the primary that writes, for whoever asks again. A request that was passed on has the header Ordup-Passed, and goes no further.
-//
-// `?wait=SECONDS` says how long an answer is waited for, at most MostWait. `?seen=EPOCH.PLACE` of a reader says what it has seen. It is
-// shown no less: where the site does not get there in that time, or too many wait already, it says how far it is. It says so at once where
-// that is more than one epoch ahead. Each of both stands there once, and nothing else does.
-//
-// Where tokens are asked for, a request has the header `Authorization: Bearer TOKEN`. With GET a token may also be the password of `Basic`.
-// With POST the header `Content-Type: application/json` is there, and none of `Origin`. So no page in a browser sends what changes something.
-//
-// Each error is an Error in JSON with a name. What its status and name say:
-//
-//	200                  it is done, or shown
-//	400 Malformed        the request has not the form: JSON, a client, a number, changes, words behind `?`
-//	401 NoToken          the token is missing, or not one of those who may ask this
-//	403 Closed           the process has tokens of others, and none of those who may ask this
-//	403 OtherSite        the token is of another site than that which the place is of
-//	403 OtherOrigin      a page in a browser asks for what changes something
-//	404 NoSuchPath       the process has no such path
-//	404 NoSuchObject     the site has no such object
-//	404 NoSite           the script, or the fleet, has no such site
-//	405 NoSuchMethod     the path takes another method
-//	408 TooSlow          the body did not come in time
-//	409 Passed           the client asked under a later number before, which is `last`
-//	409 Differs          the client asked for other changes under this number before
-//	409 OtherWish        somebody else has asked for the next epoch, in another way
-//	409 NoSuchEpoch      the epoch that is to end has not begun
-//	412 Behind           the site is at `epoch` and `place`, which is before what the reader has seen
-//	413 TooLarge         the body is too large
-//	415 NotJSON          the request does not say that its body is JSON
-//	422 Refused          the store refuses the update: `refused` has the number and `refusal` the name. This is its answer for good
-//	422 CannotBe         no site can have told this place
-//	422 OtherScript      the place is of a site that ran another script: the entry that it names is another one here
-//	422 NoWish           no next epoch can be as it is wished
-//	500 Failed           something else went wrong, and the message says what. Ask again
-//	503 NotWriter        this primary does not write. `writer` says which one does, if it is known. Ask again
-//	503 NotServing       this process of the site serves no reader now. Ask again, or another one
-//	503 NotYet           this process has not run the script as far yet. Tell the place again
-//	503 Busy             too many requests wait. Ask again
-//	504 NoAnswer         there is no answer yet. Ask again
-//	507 Full             the engine is full, and takes no write. Ask again
-//
-// A request to update may be asked again under its number after each of them, and after none at all: it is done once. It has its answer
-// for good with 200, 400, 409 and 422.
+// One path more is a row of Paths, a call of `answers` by the server of a process, and in the tests of package serve what brings each of
+// its errors about. One error more is a row of rows, which some path names.
 package wire
 
 import (
@@ -68,26 +18,11 @@ import (
 	"time"
 )
 
-// What paths begin with.
-const (
-	UpdatePath = "/update"
-	PlacePath  = "/place"
-	NextPath   = "/next"
-	EpochPath  = "/epoch"
-	ValuePath  = "/value/"
-	ValuesPath = "/values"
-	// Of each process.
-	HealthPath  = "/healthz"
-	ReadyPath   = "/readyz"
-	NumbersPath = "/metrics"
-	PagePath    = "/"
-)
-
 // Headers of answers and requests.
 const (
-	// WriterHeader names the primary that writes.
+	// WriterHeader names the primary that writes, for whoever asks again.
 	WriterHeader = "Ordup-Writer"
-	// PassedHeader says that another primary has passed the request on.
+	// PassedHeader says that another primary has passed the request on, so that it goes no further.
 	PassedHeader = "Ordup-Passed"
 )
 
@@ -100,30 +35,32 @@ const (
 	MostAnswer = 1 << 20
 )
 
-// An Update is what a client asks: each change is one word, as `add:tea:-5`.
+// What each field is, for who sends or reads it, is its tag `says`.
+
+// An Update is what a client asks.
 type Update struct {
-	Client  string   `json:"client"`
-	Number  int64    `json:"number"`
-	Changes []string `json:"changes"`
+	Client  string   `json:"client" says:"the name of the client"`
+	Number  int64    `json:"number" says:"the client's own number, greater than its last one"`
+	Changes []string `json:"changes" says:"each one word, as add:tea:-5"`
 }
 
-// An Acked says that an update is acknowledged, as the update Place of Epoch. Seen is both, as a reader says that it has seen it.
+// An Acked says that an update is acknowledged.
 type Acked struct {
-	Client string `json:"client"`
-	Number int64  `json:"number"`
-	Epoch  int64  `json:"epoch"`
-	Place  int64  `json:"place"`
-	Seen   string `json:"seen"`
+	Client string `json:"client" says:"as it was asked"`
+	Number int64  `json:"number" says:"as it was asked"`
+	Epoch  int64  `json:"epoch" says:"the epoch of the update"`
+	Place  int64  `json:"place" says:"which update of the epoch it is"`
+	Seen   string `json:"seen" says:"both, as a reader says that it has seen the update"`
 }
 
-// A Place is what a site tells: epoch.Place. Digest is that of Entry.
+// A Place is what a site tells.
 type Place struct {
-	Site    string `json:"site"`
-	Member  string `json:"member"`
-	Epoch   int64  `json:"epoch"`
-	Applied int64  `json:"applied"`
-	Entry   int64  `json:"entry"`
-	Digest  string `json:"digest"`
+	Site    string `json:"site" says:"the site, or the fleet, in the script"`
+	Member  string `json:"member" says:"the site in the fleet, and else the site again"`
+	Epoch   int64  `json:"epoch" says:"the epoch that it shows"`
+	Applied int64  `json:"applied" says:"how many updates of it"`
+	Entry   int64  `json:"entry" says:"the number of the last entry that it has run"`
+	Digest  string `json:"digest" says:"the digest of that entry"`
 }
 
 // A Done says that something is done.
@@ -131,44 +68,60 @@ type Done struct{}
 
 // A Next asks for the epoch after From. What is zero or empty in it stays as it is.
 type Next struct {
-	From      int64 `json:"from"`
-	Every     int64 `json:"every,omitempty"`
-	Remembers int64 `json:"remembers,omitempty"`
-	// RemembersSeconds is for how long a client is remembered at least.
-	RemembersSeconds int64  `json:"remembers_seconds,omitempty"`
-	Ordup            string `json:"ordup,omitempty"`
-	// Declarations is the text of a file with declarations.
-	Declarations string `json:"declarations,omitempty"`
-	// Replaces says that it takes the place of what was asked for before.
-	Replaces bool `json:"replaces,omitempty"`
+	From             int64  `json:"from" says:"the epoch that is to end"`
+	Every            int64  `json:"every,omitempty" says:"after how many requests an epoch ends"`
+	Remembers        int64  `json:"remembers,omitempty" says:"for how many whole epochs a client is remembered"`
+	RemembersSeconds int64  `json:"remembers_seconds,omitempty" says:"and for how many seconds at least"`
+	Ordup            string `json:"ordup,omitempty" says:"the version of ordup that runs the epoch"`
+	Declarations     string `json:"declarations,omitempty" says:"the text of a file with declarations"`
+	Replaces         bool   `json:"replaces,omitempty" says:"whether it takes the place of what was asked for before"`
 }
 
 // A Begun says which epoch has begun.
 type Begun struct {
-	Epoch int64 `json:"epoch"`
+	Epoch int64 `json:"epoch" says:"the epoch that has begun"`
 }
 
-// A Showing is what a reader is told beside the values. Lease is for how many seconds the site may serve them without hearing of the
-// engine. Limits are those of the site in the script, as `count 3`.
+// A Relimit asks for a limit of a site, from the next update on that is acknowledged. It may be asked again: a limit that is so already
+// stays.
+type Relimit struct {
+	Site  string `json:"site" says:"the site, or the fleet, that is to have it"`
+	Limit string `json:"limit" says:"its limit, as count 3, or count none, which is as good as no limit"`
+}
+
+// A Limited says from which update of an epoch on a site has the limit.
+type Limited struct {
+	Site  string `json:"site" says:"as it was asked"`
+	Limit string `json:"limit" says:"the limit, whose none is a number"`
+	Epoch int64  `json:"epoch" says:"the epoch in which the site has it"`
+	Place int64  `json:"place" says:"from which update of it on"`
+}
+
+// A Showing is what a reader is told beside the values, as the entries of the script say which the site has run.
+//
+// What is acknowledged later and not shown weighs at most Limits, unless an operator has given the site greater ones since.
 type Showing struct {
-	Site   string   `json:"site"`
-	Epoch  int64    `json:"epoch"`
-	Place  int64    `json:"place"`
-	Seen   string   `json:"seen"`
-	Lease  float64  `json:"lease_seconds"`
-	Limits []string `json:"limits"`
+	Site         string   `json:"site" says:"the site that was asked"`
+	Epoch        int64    `json:"epoch" says:"the epoch that it shows"`
+	Place        int64    `json:"place" says:"how many updates of it"`
+	Seen         string   `json:"seen" says:"both, as a reader says that it has seen them"`
+	Acknowledged int64    `json:"acknowledged" says:"how many of these are acknowledged, as far as the site knows"`
+	Lease        float64  `json:"lease_seconds" says:"for how many seconds the site may serve without hearing of the engine"`
+	Limits       []string `json:"limits" says:"the limits of the site, as count 3: what is acknowledged later and not shown weighs no more"`
 }
 
-// A Value is that of one object.
+// A Value is that of one object. It is no further than Import from what the acknowledged updates make of it.
 type Value struct {
-	Object string `json:"object"`
-	Value  int64  `json:"value"`
+	Object string `json:"object" says:"the name of the object"`
+	Value  int64  `json:"value" says:"its value"`
+	Import int64  `json:"import" says:"how far the updates that are shown beyond the acknowledged ones move it"`
 	Showing
 }
 
-// A Values is those of all objects.
+// A Values is those of all objects. Imports has those that are not 0.
 type Values struct {
-	Values map[string]int64 `json:"values"`
+	Values  map[string]int64 `json:"values" says:"the value of each object"`
+	Imports map[string]int64 `json:"imports,omitempty" says:"the import of each value that has one but 0"`
 	Showing
 }
 

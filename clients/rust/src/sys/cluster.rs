@@ -272,6 +272,7 @@ unsafe impl Sync for Cluster {}
 // In all blocks below: the cluster is open until the drop, and the pointers are those of references and slices, as long as they say, none of
 // which overlap. A session is used by one thread at a time, since it is borrowed by `&mut`.
 impl Cluster {
+    #[inline]
     fn at(&self) -> *mut RawCluster {
         self.0.as_ptr()
     }
@@ -336,6 +337,7 @@ impl Cluster {
         unsafe { ordup_cluster_finish(self.at(), timeout_ms) }
     }
 
+    #[inline]
     pub fn read(&self, session: &mut Session, site: u32, object: ObjectId, out: &mut Seen) -> u32 {
         // SAFETY: see above.
         unsafe { ordup_cluster_read(self.at(), session, site, object, out) }

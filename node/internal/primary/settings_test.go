@@ -1,13 +1,18 @@
 package primary_test
 
 import (
+	"context"
 	"strings"
+	"sync"
 	"testing"
+	"time"
 
 	"ordup.dev/node/internal/epoch"
+	"ordup.dev/node/internal/etcdtest"
 	"ordup.dev/node/internal/exit"
 	"ordup.dev/node/internal/primary"
 	"ordup.dev/node/internal/script"
+	"ordup.dev/node/internal/store"
 )
 
 // A primary comes back with the settings with which the script began, after any wish of an operator. With others it does not.
@@ -49,4 +54,28 @@ func TestAPrimaryComesBackAfterAnyWish(t *testing.T) {
 		})
 	}
 	is(t, nil, process.end())
+}
+
+// The lease comes while a primary with other settings runs the entry that says so.
+func TestAPrimaryWithOtherSettingsDoesNotTakeOver(t *testing.T) {
+	deployment := deploy(t, 1)
+	_, first := deployment.primary(deployment.config("p1"))
+	is(t, "refused 6 UnknownObject", deployment.ask("ann", 1, "add:nothing:1"))
+	config, own := deployment.config("p2"), deployment.members.Engine()
+	config.Every = 500
+	var once sync.Once
+	config.Open = func() (store.Store, error) {
+		once.Do(func() {
+			is(t, nil, first.end())
+			etcdtest.Until(t, "the lease is not of p2", func() bool {
+				writer, err := own.Writer(context.Background())
+				return err == nil && strings.HasPrefix(writer, "p2-")
+			})
+			time.Sleep(100 * time.Millisecond) // p2 learns of it.
+		})
+		return openStore()
+	}
+	_, second := deployment.primary(config)
+	etcdtest.Until(t, "it goes on", func() bool { return len(second.done) > 0 })
+	is(t, exit.Words, exit.Of(<-second.done))
 }

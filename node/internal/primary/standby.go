@@ -162,10 +162,11 @@ func (p *Primary) takeOver(ctx context.Context) error {
 		}
 		var batch *epoch.Batch
 		err := p.with(func(core *epoch.Core) (err error) {
-			batch = core.TakeOver()
-			if core.Epoch() == 0 {
-				batch, err = p.firstBatch()
+			if core.Epoch() > 0 {
+				batch = core.TakeOver()
+				return p.agrees(core) // What replay said of it is lost where the lease came meanwhile.
 			}
+			batch, err = p.firstBatch()
 			return err
 		})
 		if err != nil {

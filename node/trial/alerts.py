@@ -8,7 +8,6 @@ from __future__ import annotations
 import contextlib
 import inspect
 import signal
-import threading
 import time
 from typing import TYPE_CHECKING, Iterator, NamedTuple
 
@@ -110,14 +109,6 @@ class Alerts(Failing):
         for name in names:
             self.deployment.start(name)
 
-    @contextlib.contextmanager
-    def asked(self, changes: str) -> Iterator[None]:
-        """An update is asked for, which has its answer once the fault is over."""
-        asks = threading.Thread(target=self.trial.asking.propose_alone, args=(changes,), daemon=True)
-        asks.start()
-        yield
-        asks.join()
-
     # The faults.
 
     @contextlib.contextmanager
@@ -131,7 +122,7 @@ class Alerts(Failing):
         """A site is stopped, and an update waits for it."""
         self.trial.asking.propose_alone("add:tea:1")
         self.deployment.processes["south"].send_signal(signal.SIGSTOP)
-        with self.asked("add:tea:200"):
+        with self.trial.asking.proposing("add:tea:200"):
             yield
             self.deployment.processes["south"].send_signal(signal.SIGCONT)
 
@@ -232,7 +223,7 @@ class Alerts(Failing):
         upkeep = self.trial.upkeep
         upkeep.fills = True
         upkeep.fill()
-        with self.asked("add:coffee:1"):
+        with self.trial.asking.proposing("add:coffee:1"):
             yield
             upkeep.fills = False
 

@@ -113,15 +113,22 @@ class Asking:
         with self.counting:
             self.open += more
 
-    def propose_alone(self, changes: str) -> None:
+    @contextlib.contextmanager
+    def proposing(self, changes: str) -> Iterator[None]:
+        """A client asks for changes. Its answer comes at the end of what is done meanwhile, or soon after it."""
         asks = threading.Thread(target=self.propose, args=(0, {"client0": changes}), daemon=True)
         asks.start()
+        yield
         ends = time.monotonic() + PATIENCE
         while asks.is_alive():
             asks.join(0.2)
             self.look()
             if time.monotonic() > ends:
                 sys.exit(f"client0 has no answer to `{changes[:80]}` after {PATIENCE} seconds")
+
+    def propose_alone(self, changes: str) -> None:
+        with self.proposing(changes):
+            pass
 
     def propose_other(self, changes: str) -> str | None:
         """The answer to other changes under the last number, or nothing where they are refused."""

@@ -1,6 +1,7 @@
 """What runs on the hosts of the trial."""
 
 import subprocess
+import threading
 from pathlib import Path
 from typing import IO
 
@@ -41,7 +42,8 @@ class Deployment:
         return self.folder / f"archive-{name}"
 
     def begin(self, host: str, words: list[str], output: IO[str] | None = None) -> Process:
-        # Where the trial is killed, so is what it started.
+        # Where the trial is killed, so is what it started. The system does that as soon as the thread ends which started it.
+        assert threading.current_thread() is threading.main_thread()
         words = ["setpriv", "--pdeathsig", "KILL", "ip", "netns", "exec", f"{NET}-{host}", *words]
         return subprocess.Popen(words, stdin=subprocess.DEVNULL, stdout=output or self.log, stderr=self.log)
 

@@ -1,7 +1,6 @@
 """What fails of sites. Each public method is a fault from its beginning to its end."""
 
 import signal
-import threading
 import time
 
 from addresses import FLEET, MACHINES, MEMBERS, SITES, SPARE, USERS, address_of
@@ -80,21 +79,19 @@ class SiteFaults(Failing):
             # It may end, and is started again with the fleet.
             self.may_leave.add(west)
             self.deployment.down.add("west")
-            asks = threading.Thread(target=self.trial.asking.propose_alone, args=("add:tea:200",), daemon=True)
-            asks.start()
-            # The lease of the site lives.
-            self.pause(1.5, 1.8)
-            west.send_signal(signal.SIGCONT)
-            self.pause(1, 1)
-            fleet.kill()
-            fleet.wait()
-            self.deployment.start(FLEET)
-            self.check(west.poll() in (None, 4), f"west ended with {west.returncode}")
-            if west.returncode is None:
-                self.deployment.down.discard("west")
-            else:
-                self.deployment.start("west")
-            asks.join()
+            with self.trial.asking.proposing("add:tea:200"):
+                # The lease of the site lives.
+                self.pause(1.5, 1.8)
+                west.send_signal(signal.SIGCONT)
+                self.pause(1, 1)
+                fleet.kill()
+                fleet.wait()
+                self.deployment.start(FLEET)
+                self.check(west.poll() in (None, 4), f"west ended with {west.returncode}")
+                if west.returncode is None:
+                    self.deployment.down.discard("west")
+                else:
+                    self.deployment.start("west")
 
     def slow_return_of_lease(self) -> None:
         """A process gets the lease of its site and cannot read the script. So it gives the lease back, and the engine hears of that seconds

@@ -54,7 +54,7 @@ func TestCertificatesAndTokensAreReadAgain(t *testing.T) {
 	becomes := func(what, token string, isSo func(serial string, status int) bool) {
 		t.Helper()
 		serial, status := "", 0
-		for end := time.Now().Add(8 * time.Second); time.Now().Before(end); time.Sleep(100 * time.Millisecond) {
+		for end := time.Now().Add(30 * time.Second); time.Now().Before(end); time.Sleep(100 * time.Millisecond) {
 			serial, status = look(token)
 			if isSo(serial, status) {
 				return

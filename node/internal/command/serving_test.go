@@ -38,7 +38,7 @@ func TestTheHandlerKnowsThatTheProcessEnds(t *testing.T) {
 		cancel()
 		select {
 		case <-handler.ends:
-		case <-time.After(5 * time.Second):
+		case <-time.After(30 * time.Second):
 			t.Error("it does not know")
 		}
 		return nil

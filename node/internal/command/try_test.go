@@ -72,7 +72,7 @@ func (tr *tried) end() {
 		if status != exit.Done || tr.log.String() != "" {
 			tr.t.Error(status, tr.log)
 		}
-	case <-time.After(15 * time.Second):
+	case <-time.After(30 * time.Second):
 		tr.t.Fatal("it does not end")
 	}
 }

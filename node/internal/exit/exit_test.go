@@ -40,11 +40,14 @@ func TestUntilTheProcessIsAskedToEnd(t *testing.T) {
 			if err := syscall.Kill(os.Getpid(), row.sent); err != nil {
 				t.Fatal(err)
 			}
-			ends := false
+			ends, most := false, 30*time.Second
+			if !row.ends {
+				most = time.Second
+			}
 			select {
 			case <-ctx.Done():
 				ends = true
-			case <-time.After(time.Second):
+			case <-time.After(most):
 			}
 			cancel()
 			if ends != row.ends {

@@ -40,8 +40,8 @@ func TestASiteThatIsCutOff(t *testing.T) {
 	is(t, "epoch 1 place 1 tea=999999", deployment.read(north, site.Seen{Epoch: 1, Place: 1}))
 	// Another process of the site runs the script as well, and without the lease tells nothing.
 	other, process := deployment.site("north", "")
-	until(t, 5*time.Second, "the other process does not follow", func() bool { return other.Status().Place == 1 })
-	until(t, 5*time.Second, "it tells nothing", func() bool { return one.Status().Core.Sites[0].Applied == 1 })
+	until(t, 30*time.Second, "the other process does not follow", func() bool { return other.Status().Place == 1 })
+	until(t, 30*time.Second, "it tells nothing", func() bool { return one.Status().Core.Sites[0].Applied == 1 })
 	link.Cut()
 	cut := time.Now()
 	// Its limit lets three updates pass, and not the fourth, whether or not it serves.
@@ -95,10 +95,10 @@ func TestAWriterThatIsCutOff(t *testing.T) {
 	select {
 	case err := <-lost:
 		is(t, true, errors.As(err, &other))
-	case <-time.After(5 * time.Second):
+	case <-time.After(30 * time.Second):
 		t.Error("who asked the first one waits for ever")
 	}
-	until(t, 5*time.Second, "p1 does not stand by", func() bool { return one.Status().Core.Written == two.Status().Core.Written })
+	until(t, 30*time.Second, "p1 does not stand by", func() bool { return one.Status().Core.Written == two.Status().Core.Written })
 	is(t, false, one.Status().Writes)
 	is(t, "http://p2", one.Status().Writer)
 }
@@ -119,7 +119,7 @@ func TestNobodyTakesOverWithALeaseThatMayBeOver(t *testing.T) {
 	deployment.run(two.Run)
 	until(t, 10*time.Second, "it has no lease", func() bool { return two.Status().Lease > 0 })
 	leases.Cut()
-	until(t, 5*time.Second, "its lease is not over", func() bool { return two.Status().Lease == 0 })
+	until(t, 30*time.Second, "its lease is not over", func() bool { return two.Status().Lease == 0 })
 	time.Sleep(engine.CallTime + time.Second) // What it asked while it had the lease has failed.
 	last, err := deployment.members.Engine().Last(context.Background(), 1)
 	is(t, nil, err)

@@ -91,7 +91,7 @@ func TestAKeyThatIsWrittenOverHoldsItsSite(t *testing.T) {
 	deployment.site("south", "")
 	is(t, "ok acked 1 epoch 1", deployment.ask("ann", 1, "add:tea:-1"))
 	is(t, "epoch 1 place 1 tea=999999", deployment.read(north, site.Seen{Epoch: 1, Place: 1}))
-	until(t, 5*time.Second, "its lease is old", func() bool { return north.Status().Lease > engine.Relied-200*time.Millisecond })
+	until(t, 30*time.Second, "its lease is old", func() bool { return north.Status().Lease > engine.Relied-200*time.Millisecond })
 	link.Cut()
 	deployment.members.Put("site/north/north", "by hand")
 	begun, err := deployment.next(epoch.Wish{From: 1, Declarations: withoutNorth})

@@ -25,7 +25,7 @@ func TestTheSiteOfAnotherDeploymentIsRefused(t *testing.T) {
 	process := other.run(strays.Run)
 	select {
 	case err = <-process.done:
-	case <-time.After(10 * time.Second):
+	case <-time.After(30 * time.Second):
 		t.Fatal("it goes on")
 	}
 	is(t, []any{true, exit.NoPlace}, []any{errors.Is(err, epoch.ErrOtherScript), exit.Of(err)})

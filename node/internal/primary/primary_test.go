@@ -224,7 +224,7 @@ func TestTheWayOfAnUpdate(t *testing.T) {
 	is(t, primary.ErrMalformed, deployment.ask("\xff", 6, "add:tea:1"))
 	is(t, "epoch 1 place 1 tea=999999", deployment.read(south, site.Seen{Epoch: 1, Place: 1}))
 	_, err := two.Submit(context.Background(), epoch.Request{Client: "ann", Number: 2, Changes: "add:tea:-1"})
-	until(t, 5*time.Second, "p2 does not know who writes", func() bool { return two.Status().Writer == "http://p1" })
+	until(t, 30*time.Second, "p2 does not know who writes", func() bool { return two.Status().Writer == "http://p1" })
 	is(t, true, strings.HasPrefix(err.Error(), "this primary does not write"))
 	// The limit of north is 3, and it is not there.
 	for number := int64(2); number <= 3; number++ {
@@ -279,10 +279,10 @@ func TestEpochsAndArchives(t *testing.T) {
 	is(t, nil, err)
 	is(t, 20, strings.Count(string(text), "\npropose add:tea:-1\n"))
 	is(t, 20, strings.Count(string(text), "\n# answer ann "))
-	until(t, 5*time.Second, "p2 does not follow", func() bool { return two.Status().Core.Epoch == 2 })
+	until(t, 30*time.Second, "p2 does not follow", func() bool { return two.Status().Core.Epoch == 2 })
 	// Who starts now begins with epoch 2.
 	fresh, process := deployment.site("north", "")
-	until(t, 5*time.Second, "the fresh process does not follow", func() bool { return fresh.Status().Place == 1 })
+	until(t, 30*time.Second, "the fresh process does not follow", func() bool { return fresh.Status().Place == 1 })
 	is(t, nil, process.end())
 	begun, err = deployment.next(epoch.Wish{From: 2})
 	is(t, []any{3, nil}, []any{begun, err})

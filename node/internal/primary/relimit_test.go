@@ -41,7 +41,7 @@ func TestALimitChanges(t *testing.T) {
 	is(t, "ok acked 2 epoch 1", deployment.ask("ann", 2, "add:tea:-1"))
 	is(t, []int64{2}, one.Status().Core.Sites[0].Lags)
 	two, second := deployment.primary(deployment.config("p2"))
-	ctx, cancel := context.WithTimeout(context.Background(), time.Second)
+	ctx, cancel := context.WithTimeout(context.Background(), 20*time.Second)
 	defer cancel()
 	_, err := two.Relimit(ctx, epoch.Limiting{Site: "north", Limit: script.Limit{Scope: "count", Amount: 9}})
 	var other *primary.NotWriterError

@@ -7,6 +7,7 @@ import (
 	"path/filepath"
 	"reflect"
 	"runtime"
+	"runtime/debug"
 	"strconv"
 	"strings"
 	"sync"
@@ -36,6 +37,7 @@ func number(of string, usual int64) int64 {
 // Every property holds in runs of any seeds, and runs come to what they are for. Of the first seed that breaks one the run is shrunk, and
 // told as a file of testdata has it.
 func TestRuns(t *testing.T) {
+	defer debug.SetGCPercent(debug.SetGCPercent(800)) // A run leaves much and keeps nothing: workers would wait for the collector.
 	first, count := number("NODE_SEED", 1), number("NODE_SEEDS", usualSeeds)
 	began, next, failed := time.Now(), first-1, int64(math.MaxInt64)
 	var lock sync.Mutex

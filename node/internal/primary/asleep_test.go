@@ -6,6 +6,7 @@ import (
 	"io"
 	"os"
 	"os/exec"
+	"path/filepath"
 	"strings"
 	"syscall"
 	"testing"
@@ -13,6 +14,21 @@ import (
 
 	"ordup.dev/node/internal/site"
 )
+
+// sleeps is whether each thread of a process has stopped. One that runs on another processor goes on for a moment after the signal.
+func sleeps(t *testing.T, process int) bool {
+	t.Helper()
+	threads, err := filepath.Glob(fmt.Sprintf("/proc/%d/task/*/stat", process))
+	is(t, nil, err)
+	for _, thread := range threads {
+		text, err := os.ReadFile(thread)
+		is(t, nil, err)
+		if _, state, _ := strings.Cut(string(text), ") "); !strings.HasPrefix(state, "T") {
+			return false
+		}
+	}
+	return len(threads) > 0
+}
 
 // A process of a site sleeps while another one takes its lease. As it wakes it tells readers nothing that is too old, at no moment.
 func TestASiteThatSlept(t *testing.T) {
@@ -36,6 +52,7 @@ func TestASiteThatSlept(t *testing.T) {
 	}
 	until(t, 10*time.Second, "it does not serve", func() bool { return read() == "place 1" })
 	is(t, nil, sleeper.Process.Signal(syscall.SIGSTOP))
+	until(t, 10*time.Second, "it goes on", func() bool { return sleeps(t, sleeper.Process.Pid) })
 	const waiting = 500
 	io.WriteString(asks, strings.Repeat("read\n", waiting))
 	other, _ := deployment.site("north", "")

@@ -4,7 +4,7 @@
 - rattle: a file of Rattle, with its functions, types, imports and modules
 - antt: a file of specs/ or proofs/, with its declarations and imports
 - tree: crates.txt, and the files of the crates
-- pages: pages, with their blocks, tables, links and parts that are printed
+- pages: pages, with their blocks, what is typed in these, tables, links and parts that are printed
 - promises: the promises above calls, and which of them each test shows
 - findings: how a check says what is wrong
 

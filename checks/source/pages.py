@@ -12,12 +12,39 @@ BEGINS = "<!-- {}: checks/model --print writes this part -->"
 ENDS = "<!-- end -->"
 
 
-class Block(NamedTuple):
-    """A block between fences: the word behind the first one, the number of the line after it, and its lines."""
+class Command(NamedTuple):
+    """A command of a block that is typed: its line, itself, and what comes of it."""
 
+    line: int
+    text: str
+    answers: list[str]
+
+
+class Block(NamedTuple):
+    """A block between fences: its page, the word behind the first one, the number of the line after it, and its lines."""
+
+    page: str
     word: str
     line: int
     lines: tuple[str, ...]
+
+    @property
+    def where(self) -> str:
+        return f"{self.page}:{self.line}"
+
+    @property
+    def text(self) -> str:
+        return "".join(f"{line}\n" for line in self.lines)
+
+    def commands(self) -> list[Command]:
+        """The commands, which begin with `$ `, each with the lines below it."""
+        found: list[Command] = []
+        for number, line in enumerate(self.lines, self.line):
+            if line.startswith("$ "):
+                found.append(Command(number, line[2:], []))
+            elif found:
+                found[-1].answers.append(line)
+        return found
 
 
 class Row(NamedTuple):
@@ -37,22 +64,40 @@ class Page:
         self.titles: dict[int, str] = {}
         # The lines outside of blocks, by their numbers.
         self.bare: dict[int, str] = {}
+        # Where a block begins that is indented, or has no end.
+        self.without_fence: list[int] = []
         block: Block | None = None
-        for number, line in enumerate(self.lines, 1):
+        for number, (above, line) in enumerate(zip(["", *self.lines], self.lines), 1):
             if block and line.strip() == "```":
                 self.blocks.append(block)
                 block = None
             elif block:
-                block = Block(block.word, block.line, (*block.lines, line))
+                block = block._replace(lines=(*block.lines, line))
             elif line.lstrip().startswith("```"):
-                block = Block(line.strip()[3:], number + 1, ())
+                block = Block(name, line.strip()[3:], number + 1, ())
             else:
                 self.bare[number] = line
                 if line.startswith("#"):
                     self.titles[number] = line
+                if line.startswith(("    ", "\t")) and not above.strip():
+                    self.without_fence.append(number)
+        self.without_fence += [block.line] if block else []
 
     def of_word(self, word: str) -> list[Block]:
         return [it for it in self.blocks if it.word == word]
+
+    def below(self, title: str) -> range:
+        """The numbers of the lines below a title, up to the next one of its level or above; of all lines below no title."""
+        first = next(number for number, it in self.titles.items() if it == title) if title else 0
+        ends = [number for number, it in self.titles.items() if title and number > first and len(it.split()[0]) <= len(title.split()[0])]
+        return range(first + 1, min(ends, default=len(self.lines) + 1))
+
+    def blocks_below(self, title: str) -> list[Block]:
+        return [it for it in self.blocks if it.line in self.below(title)]
+
+    def text_below(self, title: str) -> str:
+        """The lines below a title that stand outside of blocks."""
+        return "".join(f"{line}\n" for number, line in self.bare.items() if number in self.below(title))
 
     def anchors(self) -> set[str]:
         """The names by which links lead to the titles."""
@@ -73,9 +118,7 @@ class Page:
 
     def rows_below(self, title: str) -> list[Row]:
         """The rows of all tables below a title, up to the next one of its level or above."""
-        first = next(number for number, it in self.titles.items() if it == title)
-        ends = [number for number, it in self.titles.items() if number > first and len(it.split()[0]) <= len(title.split()[0])]
-        return [it for it in self.rows() if first < it.line < min(ends, default=len(self.lines) + 1)]
+        return [it for it in self.rows() if it.line in self.below(title)]
 
     def with_part(self, name: str, lines: Iterable[str]) -> str | None:
         """The text of the page with these lines in a part that is printed; None where it has no place for the part."""

@@ -219,18 +219,33 @@ class Crates(unittest.TestCase):
 
 
 class Pages(unittest.TestCase):
-    def test_page(self) -> None:
+    def page(self, text: str) -> Page:
         with tempfile.TemporaryDirectory() as folder:
-            (Path(folder) / "A.md").write_text("# One, two\n\n[a](#one-two) [b](B.md#c) [d](https://e)\n\n"
-                                               "```way\n# no title\n[f](g)\n```\n\n"
-                                               "## Next\n\n|a|b \\| c|\n|-|-|\n\n### Below\n\n| c |\n\n## Last\n\n| d |\n")
-            page = Page(Path(folder), "A.md")
-        self.assertEqual([tuple(it) for it in page.blocks], [("way", 6, ("# no title", "[f](g)"))])
+            (Path(folder) / "A.md").write_text(text)
+            return Page(Path(folder), "A.md")
+
+    def test_page(self) -> None:
+        page = self.page("# One, two\n\n[a](#one-two) [b](B.md#c) [d](https://e)\n\n```way\n# no title\n[f](g)\n```\n\n"
+                         "## Next\n\n|a|b \\| c|\n|-|-|\n\n### Below\n\n| c |\n\n```way\n```\n\n## Last\n\n| d |\n")
+        self.assertEqual([tuple(it) for it in page.blocks], [("A.md", "way", 6, ("# no title", "[f](g)")), ("A.md", "way", 20, ())])
+        self.assertEqual((page.blocks[0].where, page.blocks[0].text), ("A.md:6", "# no title\n[f](g)\n"))
         self.assertEqual(page.anchors(), {"one-two", "next", "below", "last"})
         self.assertEqual([*page.links()], [(3, "", "one-two"), (3, "B.md", "c")])
-        self.assertEqual([(it.line, it.title, it.cells) for it in page.rows()], [(12, "Next", ("a", "b \\| c")), (13, "Next", ("-", "-")),
-                                                                               (17, "Below", ("c",)), (21, "Last", ("d",))])
+        self.assertEqual([(it.line, it.title, it.cells) for it in page.rows()], [
+            (12, "Next", ("a", "b \\| c")), (13, "Next", ("-", "-")), (17, "Below", ("c",)), (24, "Last", ("d",))])
         self.assertEqual([it.line for it in page.rows_below("## Next")], [12, 13, 17])
+        self.assertEqual([it.line for it in page.blocks_below("## Next")], [20])
+        self.assertEqual(page.text_below("## Last"), "\n| d |\n\n")
+        self.assertEqual([*page.below("")], [*range(1, 26)])
+
+    def test_commands(self) -> None:
+        page = self.page("```session\nno command\n$ one\na\n\n$ two\n```\n")
+        self.assertEqual([tuple(it) for it in page.blocks[0].commands()], [(3, "one", ["a", ""]), (6, "two", [])])
+
+    def test_blocks_without_a_fence(self) -> None:
+        page = self.page("# A\n\n    indented\n    on\ntext\n    goes on\n\n\ttab\n\n```text\n\n    inside\n```\n\n```text\nno end\n")
+        self.assertEqual(page.without_fence, [3, 8, 16])
+        self.assertEqual([it.line for it in page.blocks], [11])
 
 
 if __name__ == "__main__":

@@ -3,49 +3,62 @@
 from __future__ import annotations
 
 import re
+import sys
 from pathlib import Path
 from typing import Callable
 
-PAGE = "docs/EMBEDDING.md"
 TOP = Path(__file__).resolve().parent.parent
+sys.path.append(str(TOP / "checks"))
+
+from source.pages import Block, Page
+
+PAGE, OF_LINES = "docs/EMBEDDING.md", "## A store of lines"
 
 
-def section(page: str, heading: str = "") -> str:
-    """What a page has under a heading, up to the next one that is as high."""
-    text = (TOP / page).read_text(encoding="utf-8")
-    return text[text.index(f"\n## {heading}\n") + 1 :].partition("\n## ")[0] if heading else text
-
-
-def only(pattern: str, what: str, page: str = PAGE, heading: str = "") -> re.Match[str]:
-    """What a page has once by a pattern, under a heading."""
-    found = [*re.finditer(pattern, section(page, heading), re.M | re.S)]
+def block_of(language: str, page: str, title: str) -> Block:
+    """The one block of a language below a title."""
+    found = [it for it in Page(TOP, page).blocks_below(title) if it.word == language]
     if len(found) != 1:
-        raise ValueError(f"{page} has {len(found)} times {what}, and not once")
+        raise ValueError(f"{page} has {len(found)} blocks of {language} below {title}, and not one")
+    return found[0]
+
+
+def after(language: str, word: str, others: tuple[str, ...]) -> Block:
+    """The block of a word that belongs to the example of a language: between the two stand none but those of others."""
+    source = block_of(language, PAGE, OF_LINES)
+    behind = [it for it in Page(TOP, PAGE).blocks_below(OF_LINES) if it.line > source.line and it.word not in others]
+    if not behind or behind[0].word != word:
+        raise ValueError(f"{PAGE} has no block of {word} for the example in {language}")
+    return behind[0]
+
+
+def only(pattern: str, page: str = PAGE, title: str = "") -> str:
+    """What a page has once by a pattern in its text, below a title."""
+    found: list[str] = re.findall(pattern, Page(TOP, page).text_below(title))
+    if len(found) != 1:
+        raise ValueError(f"{page} has {len(found)} times {pattern}, and not once")
     return found[0]
 
 
 def example(language: str) -> tuple[str, str]:
     """The example of a store of lines in a language, and what it prints: the block after it."""
-    it = only(rf"^```{language}\n(.*?)^```\n.*?^```text\n(.*?)^```\n", f"an example in {language}", heading="A store of lines")
-    return it[1], it[2]
+    return block_of(language, PAGE, OF_LINES).text, after(language, "text", ("proof",)).text
 
 
 def of_threads(language: str) -> tuple[str, str]:
     """The example of a cluster in a language, and what it prints."""
-    where, told = ((PAGE, "A cluster"), "Each prints") if language in ("c", "go") else (("README.md", "From threads"), "each printing")
-    source = only(rf"^```{language}\n(.*?)^```\n", f"a cluster in {language}", *where)[1]
-    return source, only(rf"{told} (\d+)", "what is printed", *where)[1] + "\n"
+    where, told = ((PAGE, "## A cluster"), "Each prints") if language in ("c", "go") else (("README.md", "## From threads"), "each printing")
+    return block_of(language, *where).text, only(rf"{told} (\d+)", *where) + "\n"
 
 
 def command(language: str) -> str:
     """The command by which the page runs the example of a language, which stands between it and what it prints."""
-    return only(rf"^```{language}\n.*?^```\n(?:(?!^```text).)*?^```proof\n(.*?)\n```\n", f"a command for {language}",
-                heading="A store of lines")[1]
+    return after(language, "proof", ()).text
 
 
 def quoted(begin: str) -> str:
     """The words in backquotes on the page that begin so."""
-    return only(rf"`({re.escape(begin)}[^`\n]*)`", begin)[1]
+    return only(rf"`({re.escape(begin)}[^`\n]*)`")
 
 
 def lay(language: str, folder: Path, clients: str, example: Callable[[str], tuple[str, str]] = example) -> str:

@@ -115,7 +115,7 @@ CHECKS = [
     Check("checks/mistaken PROGRAM", "checks of the program see one that is wrong by a word",
           r"tests/lag|checks/(epochs|mistaken|outside|pages|rows|series)$", 5, "beside", "a minute"),
     Check("checks/pages PROGRAM", "the pages, the examples and the help say what the program does",
-          r".*\.md$|docs/|examples/|clients/python/|checks/(refusals$|table)|node/engine$|(bench/(clients/)?run|ordup)$|"
+          r".*\.md$|docs/|examples/|clients/python/|checks/(refusals$|source/|table)|node/engine$|(bench/(clients/)?run|ordup)$|"
           r"crates/(ordup_cli|example_.*)/", 5, before_proof=True),
     Check("checks/rows PROGRAM", "the rows of tests/", r"tests/|crates/ordup_cli/", 750, takes="a minute", before_proof=True),
     Check("checks/epochs PROGRAM", "three stores, one after the other", r"crates/(ordup_cli|ordup_succession)/", 24,
@@ -128,18 +128,19 @@ CHECKS = [
     Check("checks/outside PROGRAM REST_TRIAL", "streams, words, sizes and a store at rest",
           r"docs/FORMATS|crates/(ordup_cli|rest_trial)/", 500, takes="a minute", before_proof=True),
     # What tries the library, the node and the packages.
-    Check("checks/cluster_c ARCHIVE PROGRAM", "the cluster of programs in C", r"clients/c/(ordup_)?(cluster|holds)", 7, "alone",
+    Check("checks/cluster_c ARCHIVE PROGRAM", "the cluster of programs in C", r"clients/c/(ordup_)?(cluster|holds)|checks/cases", 7, "alone",
           "a minute", "gcc"),
     Check("checks/clients PROGRAM LIBRARY", "the bindings",
-          r"README|docs/(CLIENTS|EMBEDDING|FORMATS|LIMITS|MODEL|SERVICE)|(bench/)?clients/|packages/contents|checks/cluster_c$|"
+          r"README|docs/(CLIENTS|EMBEDDING|FORMATS|LIMITS|MODEL|SERVICE)|(bench/)?clients/|packages/contents|checks/(cases|cluster_c$|source/)|"
           r"crates/ordup_(c|cli)/", 10, "alone", "minutes", "gcc, and Rust, Go, Python if they are to be tried"),
     Check("checks/clusters PROGRAM LIBRARY", "a plan comes to the same in the cluster of each language",
-          r"clients/|crates/ordup_(cli|cluster|plan|shared|shapes)/", 70, "alone", "a minute"),
+          r"checks/cases|clients/|crates/ordup_(cli|cluster|plan|shared|shapes)/", 70, "alone", "a minute"),
     Check("node/checks/code LIBRARY NODE", "the node: its form, its tests, its simulation",
           r"node/|clients/(go/|rust/|python/ordup_node)|docs/(HOSTS|HTTP|MACHINES)|examples/machines/update|crates/ordup_c/", 340, "beside",
           "minutes", "Go and etcd", may_be_left=True),
     Check("packages/checks/installed PROGRAM LIBRARY", "the packages in a clean Debian",
           r"README|docs/(EMBEDDING|FORMATS|HOSTS|HTTP|MACHINES|machines|node)|clients/|node/|examples/machines/(shop|three/)|packages/|"
+          r"checks/(cases|source/)|"
           r"crates/ordup_(c|cli|command_line)/", 10, "beside", "minutes", "root, and Debian over the network", may_be_left=True),
     Check("checks/pages PROGRAM NODE", "what is typed on several machines, and in a trial",
           r"README|node/|clients/(go/|python/ordup_node)|docs/(HOSTS|HTTP|MACHINES)|examples/machines/|crates/ordup_(c|cli)/", 7,

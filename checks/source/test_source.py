@@ -10,7 +10,7 @@ from .antt import read_definitions
 from .pages import Page
 from .rattle import File, Function, read_file, split
 from .tokens import read_tokens
-from .tree import below, read_crates
+from .tree import Tree, below, read_crates
 
 ODD = """\
 //! A file. /* no block
@@ -216,6 +216,16 @@ class Crates(unittest.TestCase):
         self.assertEqual([(it.name, it.kind, it.libraries, it.line) for it in crates.values()],
                          [("low", "", (), 1), ("mid", "", ("low", "std_only"), 3), ("top", "staticlib", ("mid", "low"), 4)])
         self.assertEqual(below(crates, "top"), ["low", "mid"])
+
+
+    def test_copies(self) -> None:
+        with tempfile.TemporaryDirectory() as folder:
+            (Path(folder) / "crates.txt").write_text("one:\ntwo:\nthree:\nfour:\n")
+            for crate, text in (("one", "fn a() {}\n"), ("two", "fn a() {}\n"), ("three", "fn a() {}\n\n")):
+                (Path(folder) / "crates" / crate / "src").mkdir(parents=True)
+                (Path(folder) / "crates" / crate / "src/expect.rt").write_text(text)
+            odd = [(it.crate, first.crate) for it, first in Tree(Path(folder)).odd_copies("expect")]
+        self.assertEqual(odd, [("three", "one")])
 
 
 class Pages(unittest.TestCase):

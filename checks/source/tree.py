@@ -86,6 +86,11 @@ class Tree:
     def file(self, crate: str, module: str) -> File | None:
         return next((it for it in self.files(crate) if it.module == module), None) if crate in self.crates else None
 
+    def odd_copies(self, module: str) -> list[tuple[File, File]]:
+        """The files of a module that several crates have alike which are not as the first of them, each with that."""
+        files = [it for crate in self.crates for it in self.files(crate) if it.module == module]
+        return [(it, files[0]) for it in files if it.text != files[0].text]
+
     def root(self, crate: str) -> File | None:
         return self.file(crate, "lib") or self.file(crate, "main")
 

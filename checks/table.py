@@ -126,7 +126,7 @@ CHECKS = [
     Check("checks/allocations PROGRAM MEMORY_TRIAL TESTS", "want of memory loses nothing",
           r"checks/refuse\.c|crates/(ordup_cli|memory_trial|tests?_\w+)/", 500, takes="a minute", asks="gcc"),
     Check("checks/outside PROGRAM REST_TRIAL", "streams, words, sizes and a store at rest",
-          r"docs/FORMATS|crates/(ordup_cli|rest_trial)/", 500, takes="a minute", before_proof=True),
+          r"docs/FORMATS|checks/cases|crates/(ordup_cli|rest_trial)/", 500, takes="a minute", before_proof=True),
     # What tries the library, the node and the packages.
     Check("checks/cluster_c ARCHIVE PROGRAM", "the cluster of programs in C", r"clients/c/(ordup_)?(cluster|holds)|checks/cases", 7, "alone",
           "a minute", "gcc"),

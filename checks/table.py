@@ -70,7 +70,7 @@ TESTS = "TESTS"  # the tests of the crates tests_of_*, where these were built
 CHECKS = [
     # What reads the sources and the pages.
     Check("checks/source/test", "the reader of the sources, and the types of all checks",
-          r"checks/|packages/|node/checks/|clients/(c/archive|examples)|bench/(page|clients/run)", 15, takes="a minute", asks="mypy"),
+          r"checks/|launcher/|packages/|node/checks/|clients/(c/archive|examples)|bench/(page|clients/run)", 15, takes="a minute", asks="mypy"),
     Check("checks/edits/run --list", "each wrong body can be applied and names its promise",
           r"crates/|checks/(edits|source)/|docs/PROOFS", 600),
     Check("checks/tests", "each test names a promise of PROOFS, and each worked row is there",
@@ -124,9 +124,9 @@ CHECKS = [
     Check("checks/audit PROGRAM", "a second checker of records says the same",
           r"docs/FORMATS|examples/audit|crates/ordup_(cli|series|check)/", 3000),
     Check("checks/allocations PROGRAM MEMORY_TRIAL TESTS", "want of memory loses nothing",
-          r"checks/refuse\.c|crates/(ordup_cli|memory_trial|tests?_\w+)/", 500, takes="a minute", asks="gcc"),
+          r"checks/(refuse\.c|samples)|crates/(ordup_cli|memory_trial|tests?_\w+)/", 500, takes="a minute", asks="gcc"),
     Check("checks/outside PROGRAM REST_TRIAL", "streams, words, sizes and a store at rest",
-          r"docs/FORMATS|checks/cases|crates/(ordup_cli|rest_trial)/", 500, takes="a minute", before_proof=True),
+          r"docs/FORMATS|checks/(cases|samples)|crates/(ordup_cli|rest_trial)/", 500, takes="a minute", before_proof=True),
     # What tries the library, the node and the packages.
     Check("checks/cluster_c ARCHIVE PROGRAM", "the cluster of programs in C", r"clients/c/(ordup_)?(cluster|holds)|checks/cases", 7, "alone",
           "a minute", "gcc"),

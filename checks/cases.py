@@ -1,4 +1,8 @@
-"""How a check runs commands, tries cases, and counts what it tried."""
+"""How a check runs commands, tries cases, and counts what it tried.
+
+What a machine has no tools for is not tried: a line that begins with `not tried: ` tells it. The last line of a check that ends by `end`
+is `N passed, M failed`, and its status is 0 where M is 0 and N is not.
+"""
 
 from __future__ import annotations
 

@@ -1,7 +1,8 @@
 """Tests the program before its proof, as the gate does the proved one.
 
-Those checks are made of checks/table.py that are to be made before the proof, too. Beside them the tests by calls of each crate are run, by `rt try --test`. Of what fails all that it said
-is told, and on standard error what was not tried. The last line is 'N passed, M failed', and the status is 0 where M is 0 and N is not.
+Those checks are made of checks/table.py that are to be made before the proof, too. Beside them the tests by calls of each crate are run,
+by `rt try --test`. Of what fails all that it said is told, and on standard error what was not tried. The last line is 'N passed, M
+failed', and the status is 0 where M is 0 and N is not.
 """
 
 from __future__ import annotations

@@ -8,10 +8,15 @@ import hashlib
 import os
 import shutil
 import subprocess
+import sys
 from pathlib import Path
-from typing import Any, Iterable, Iterator, NamedTuple, Sequence, Union
+from typing import Any, Iterable, Iterator, Sequence, Union
 
 TOP = Path(__file__).resolve().parent.parent
+sys.path.append(str(TOP / "checks"))
+
+from source.tree import Crate, below, read_crates
+
 OUT = TOP / "out"
 begun: list[subprocess.Popen[bytes]] = []
 
@@ -22,13 +27,6 @@ class Failure(Exception):
     def __init__(self, why: str, status: int = 70) -> None:
         super().__init__(why)
         self.status = status
-
-
-class Crate(NamedTuple):
-    """A crate of crates.txt: its line there, and those of its libraries that are crates of the checkout."""
-
-    line: str
-    below: list[str]
 
 
 def put(text: bytes) -> None:
@@ -79,20 +77,8 @@ def sources(*others: str) -> bytes:
 
 def crates_below(names: Iterable[str]) -> dict[str, Crate]:
     """These crates and all that they stand on, lowest first. Of those that crates.txt does not list none is there."""
-    lines = [line.split("#")[0].partition(":") for line in (TOP / "crates.txt").read_text(encoding="utf-8").split("\n")]
-    known = {name.split()[0]: (f"{name}:{libraries}", libraries.split()) for name, _, libraries in lines if name.strip()}
-    found: dict[str, Crate] = {}
-
-    def add(name: str) -> None:
-        if name in known and name not in found:
-            line, libraries = known[name]
-            for it in libraries:
-                add(it)
-            found[name] = Crate(line, [it for it in libraries if it in known])
-
-    for name in names:
-        add(name)
-    return found
+    known = read_crates((TOP / "crates.txt").read_text(encoding="utf-8"))
+    return {it: known[it] for name in names for it in [*below(known, name), name] if it in known}
 
 
 def named_folder() -> Path:

@@ -64,12 +64,16 @@ class Proof:
         self.behind = dict.fromkeys(self.crates, 0)
         for name in reversed(list(self.crates)):
             self.behind[name] += self.lines[name]
-            for it in self.crates[name].below:
+            for it in self.below(name):
                 self.behind[it] = max(self.behind[it], self.behind[name])
         self.proved: list[str] = []
         self.at_work: dict[str, subprocess.Popen[bytes]] = {}
         self.processors = int(output_of(["nproc"])[0])
         self.begun_at = time.monotonic()
+
+    def below(self, name: str) -> set[str]:
+        """The crates of the checkout that a crate names."""
+        return set(self.crates[name].libraries) & set(self.crates)
 
     def run(self) -> None:
         """Proves all. However it ends, nothing that it began goes on: a `rt` that is ended takes with it what it began itself."""
@@ -93,7 +97,7 @@ class Proof:
         long as fewer crates than processors are at work. They have one process each, and use what that one leaves. It has several where
         it is large: a small crate reads more than it proves, and they would cost more than they save."""
         waiting = [name for name in self.crates if name not in self.proved and name not in self.at_work]
-        ready = [name for name in waiting if set(self.crates[name].below) <= set(self.proved)]
+        ready = [name for name in waiting if self.below(name) <= set(self.proved)]
         most, *_ = sorted([*self.at_work, *ready], key=lambda it: -self.behind[it])
         for name in sorted(ready, key=lambda it: -self.behind[it]):
             if name == most:
@@ -122,7 +126,7 @@ class Proof:
             for part in PARTS if it == name else (*PARTS, "out/rlib"):
                 if (of / part).is_dir():
                     shutil.copytree(of / part, tree / it / part, copy_function=copy if it == name else link)
-        (tree.parent / "crates.txt").write_text("".join(f"{it.line}\n" for it in needed.values()), encoding="utf-8")
+        (tree.parent / "crates.txt").write_text("".join(f"{it.text}\n" for it in needed.values()), encoding="utf-8")
         return tree / name
 
     def tell(self) -> None:

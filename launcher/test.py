@@ -62,7 +62,6 @@ def tell(name: str, it: Tried) -> tuple[int, int]:
 def test() -> int:
     """Tests all, and answers the status."""
     need_kit()
-    sys.path.append(str(TOP / "checks"))
     from table import CHECKS  # All else that the launcher does needs no check.
 
     crates = sorted(it for it in (TOP / "crates").iterdir() if any("#[test]" in file.read_text() for file in it.glob("src/**/*.rt")))

@@ -215,6 +215,7 @@ class Crates(unittest.TestCase):
         crates = read_crates("low:\n# none\nmid: low std_only\ntop staticlib: mid low # all\n")
         self.assertEqual([(it.name, it.kind, it.libraries, it.line) for it in crates.values()],
                          [("low", "", (), 1), ("mid", "", ("low", "std_only"), 3), ("top", "staticlib", ("mid", "low"), 4)])
+        self.assertEqual([it.text for it in crates.values()], ["low: ", "mid: low std_only", "top staticlib: mid low"])
         self.assertEqual(below(crates, "top"), ["low", "mid"])
 
 

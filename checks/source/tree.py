@@ -25,6 +25,11 @@ class Crate(NamedTuple):
         """Whether it is part of the store, and none of tests, examples and measurements."""
         return self.name.startswith("ordup_")
 
+    @property
+    def text(self) -> str:
+        """Its line, without a comment."""
+        return f"{f'{self.name} {self.kind}'.strip()}: {' '.join(self.libraries)}"
+
     def is_same(self, other: Crate) -> bool:
         """Whether another line, in which libraries may stand in another order, says the same."""
         return (self.kind, set(self.libraries)) == (other.kind, set(other.libraries))

@@ -275,7 +275,7 @@ WORKED: list[tuple[str, ...]] = [
     ("no memory for a script, and for a plan", OF_SCRIPTS + "scripts/memory.rt", "fn a_script_with_each_growth_refused",
      "fn a_plan_with_each_growth_refused"),
     ("no memory for the program", "checks/allocations", 'Case(["run"], FIRST_SCRIPT, 0, 10)',
-     'Case(["record", "a"], SCRIPT_WITH_ROUND, 0, 20)', 'Case(["check"], RECORD_WITH_ROUND, 0, 10, 1)'),
+     'Case(["record", "a"], SCRIPT, 0, 20)', 'Case(["check"], RECORD, 0, 10, 1)'),
     ("no memory for a cluster", "crates/memory_trial/src/clusters.rt", "fn try_cluster_without_limits", "fn relimit<", "fn begin<",
      "fn propose<", "fn settle<"),
     ("calls that take no memory", "crates/tests_of_calls_without_memory/src/readers.rt",

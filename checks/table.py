@@ -98,9 +98,10 @@ CHECKS = [
     Check("checks/changed --files", "each file leads to a check", r"\.ci/|checks/table", 2000),
     Check("checks/gate", "the gate fails where one of its checks does", r"\.ci/|launcher/sources|checks/(table|source/tree)", 90),
     Check("packages/checks/forged", "packages/checks/proof is not deceived",
-          r"packages/(archives|debian|opened|wheel|checks/proof$)", 40),
+          r"checks/cases|packages/(archives|debian|opened|wheel|checks/proof$)", 40),
     Check("checks/launcher", "the launcher",
-          r"ordup$|examples/first|launcher/|(clients/c|node)/build|packages/(archives|build|opened|checks/)|checks/(source/|table)", 24, takes="a minute"),
+          r"ordup$|examples/first|launcher/|(clients/c|node)/build|packages/(archives|build|opened|checks/)|checks/(source/|table)", 24,
+          takes="a minute"),
     # The proof, and models beside it.
     Check("checks/waking/run", "no wake-up is lost, in models of how threads sleep, and no promise of the node is broken in its model",
           r"checks/waking/|crates/ordup_(holds|cluster|epochs)/|clients/c/ordup_cluster|node/internal/", 10, "beside", "minutes",

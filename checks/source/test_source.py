@@ -200,7 +200,8 @@ class Definitions(unittest.TestCase):
     def test_declarations(self) -> None:
         file = read_definitions("odd", "crates/odd/specs/File.antt", "\n".join([
             "use Rattle.std.specs.Prelude.{ℕ, all as every}", "pub use Rattle.odd.specs.Other.{passed}", "",
-            "abbrev pub one-of : ℕ → ℕ -- one", "one-of x = x", "-- of two", "pub record Pair where", "  field : ℕ", "module Inner where", "  deep : ℕ", "  deep = 1",
+            "abbrev pub one-of : ℕ → ℕ -- one", "one-of x = x", "-- of two", "pub record Pair where", "  field : ℕ", "module Inner where",
+            "  deep : ℕ", "  deep = 1",
             "data Two : Type 0", "  case : Two", "private : ℕ"]))
         self.assertEqual([(it.name, it.is_public, it.line) for it in file.declared],
                          [("one-of", True, 4), ("Pair", True, 7), ("deep", False, 10), ("Two", False, 12), ("private", False, 14)])

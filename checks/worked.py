@@ -114,7 +114,7 @@ WORKED: list[tuple[str, ...]] = [
      "object b -0 -> refused 1 Syntax"),
     ("a tab", SCRIPTS + "lines.txt", "object\\x09x 1 -> refused 1 Syntax"),
     ("a comment, which has no answer", SCRIPTS + "lines.txt", "> # a comment: été\n> \n>   object   x   1  \nok object x\n"),
-    ("a last line that has no end", OUTSIDE, 'unended = run(["run"], SCRIPT[:-1])', "unended, said(ANSWERS)"),
+    ("a last line that has no end", OUTSIDE, 'run(["run"], SCRIPT[:-1]), said(ANSWERS)'),
     ("a reader that gives a byte a call", OUTSIDE, "a byte at a time", "run_in_bytes(job.words, job.given), said(job.output)"),
     # ---- names, sizes
     ("the 65th limit of a site", OUTSIDE,

@@ -197,9 +197,7 @@ print(json.dumps([how, took, longest, rung[0]]))
         with self.started(script) as process:
             how, took, longest, rung = json.loads(process.stdout.read())
         self.assertEqual(how, "TimedOut")
-        self.assertLess(took, SOON)
-        self.assertLess(longest, 1.0)
-        self.assertLess(rung, 1.2)
+        self.assertLess(max(took, longest, rung), SOON)
 
     def test_a_forgotten_store_ends(self):
         store = Store(self.program)

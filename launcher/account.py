@@ -11,7 +11,8 @@ what it said. A line of the account is one of these, in this order; DIGEST is by
     verdict NAME WORDS..      the kit's last line on the program and on the library, without what it trusts of earlier runs
     axiom NAME FUNCTION       a function of C that NAME reaches, whose contract is assumed
     file NAME DIGEST          what is installed
-    unproved NAME DIGEST ..   in the package of ordup-node alone: a program that has the library in it, and no proof of its own code
+    unproved NAME DIGEST ..   in the package of ordup-node: a program that has the library in it, and no proof of its own code;
+                              beside a library before its proof: that library. No package is made of such a one
 
 FUNCTIONS is how many functions are proved in the crate: all, since the kit makes nothing of a crate that has a hole. Closures are
 counted with their functions, as the kit does. DIGEST of a crate is that of the lines `DIGEST  FILE` for its files in src/ and
@@ -94,6 +95,13 @@ def commit() -> str:
     return f"{hash}{' with changes' if differs else ''}" if hash else "unknown"
 
 
+def opening(kit: str) -> Iterator[str]:
+    """What an account says of the checkout."""
+    yield f"commit {commit()}"
+    yield f"kit {kit}"
+    yield from (f"source {it} {sum_of(TOP / it)}" for it in ("crates.txt", "HANDLES"))
+
+
 def kit_of(folder: Path) -> str:
     """The kit that proved the program, and the library too."""
     kits = {(folder / it.crates[0] / "kit").read_text(encoding="utf-8").strip() for it in (PROGRAM, LIBRARY)}
@@ -109,9 +117,7 @@ def account(folder: Path) -> Iterator[str]:
     if status:
         raise Failure("the program does not tell its version")
     yield version.decode().strip()
-    yield f"commit {commit()}"
-    yield f"kit {kit_of(folder)}"
-    yield from (f"source {it} {sum_of(TOP / it)}" for it in ("crates.txt", "HANDLES"))
+    yield from opening(kit_of(folder))
     yield from crate_lines(folder, said)
     yield from (f"verdict {name} {' '.join(it.words)}" for name, it in said.items())
     yield from (f"axiom {name} {function}" for name, it in said.items() for function in it.reached)

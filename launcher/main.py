@@ -17,6 +17,7 @@ from typing import NoReturn, Optional
 sys.path.insert(0, str(Path(__file__).parent))
 
 import unproved
+import unproved_library
 from account import account
 from checkout import OUT, TOP, Failure, end_begun, locked, made_folder, named_folder, output_of, put, say
 from prove import LIBRARY, PROGRAM, Aim, made_of, prove
@@ -26,6 +27,7 @@ from test import test
 JOBS = ("run", "record", "check", "lag", "next", "threads", "help")
 OWN = ("--help", "-h", "--version", "-V")
 ALONE = ("--prove", "--test", "--library", "--package", "--clean")
+UNPROVED = ["--library", "--unproved"]
 # The descriptor of the standard input that ./ordup was given.
 GIVEN = 9
 SIGNALS = (signal.SIGINT, signal.SIGTERM, signal.SIGHUP)
@@ -111,13 +113,15 @@ def clean() -> None:
 def act(words: list[str]) -> int:
     """Does what the words ask for, and answers the status."""
     first = words[0] if words else "run"
-    if first in ALONE and words[1:]:
+    if first in ALONE and words[1:] and words != UNPROVED:
         raise Failure(f"{first} takes no more words", 2)
     if first == "--prove":
         prove(PROGRAM)
         say(f"the proved program is {OUT}/ordup")
     elif first == "--test":
         return test()
+    elif words == UNPROVED:
+        unproved_library.have_library()
     elif first == "--library":
         prove(LIBRARY)
         say(f"the library is in {OUT}: libordup.a, libordup.so, ordup.h and ordup_cluster.h")

@@ -171,17 +171,22 @@ def link(source: str, target: str) -> None:
         copy(source, target)
 
 
+def library_of(archives: list[Path], folder: Path) -> None:
+    """Makes the library of those of its crates."""
+    said, status = output_of([TOP / "clients" / "c" / "build", *archives, folder], stderr=subprocess.STDOUT)
+    if status:
+        put(said)
+        raise Failure("the library is compiled, but it cannot be linked")
+
+
 def build(aim: Aim, folder: Path) -> None:
-    """Puts what was proved into out/."""
+    """Puts what was proved into out/, in the place of what was not."""
     if aim is PROGRAM:
         shutil.copy(made_of(folder, "ordup_cli") / "ordup_cli", OUT / "ordup.new")
         os.replace(OUT / "ordup.new", OUT / "ordup")
         return
-    archives = [made_of(folder, it) / f"lib{it}.a" for it in aim.crates]
-    said, status = output_of([TOP / "clients" / "c" / "build", *archives, OUT], stderr=subprocess.STDOUT)
-    if status:
-        put(said)
-        raise Failure("the library is proved, but it cannot be built")
+    library_of([made_of(folder, it) / f"lib{it}.a" for it in aim.crates], OUT)
+    (OUT / "proof").unlink(missing_ok=True)  # an account of another library
 
 
 def prove_once(aim: Aim, folder: Path, lock: int) -> None:
@@ -198,8 +203,9 @@ def prove_once(aim: Aim, folder: Path, lock: int) -> None:
         say(f"the proof is ended after {len(proof.proved)} of {len(proof.crates)} crates, and goes on from there when it is begun again")
         raise
     (folder / aim.crates[0] / "kit").write_bytes(kit)
-    build(aim, folder)
-    os.replace(OUT / f"{aim.name}.new", aim.listed())
+    with locked(folder / "out.lock", "another ./ordup puts a library into out/"):
+        build(aim, folder)
+        os.replace(OUT / f"{aim.name}.new", aim.listed())
     say(f"the {aim.name} is proved and built in {proof.time()}")
 
 

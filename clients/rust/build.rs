@@ -11,7 +11,7 @@ fn main() {
     let folder = env::var_os("ORDUP_LIB_DIR").map_or_else(found, PathBuf::from);
     let library = folder.join(NAME);
     if !library.exists() {
-        let ways = "type ./ordup --library, install the package ordup, or set ORDUP_LIB_DIR to the folder that has it";
+        let ways = "type ./ordup --library (--unproved: in minutes), install the package ordup, or set ORDUP_LIB_DIR to its folder";
         println!("cargo:warning=there is no {}: {ways}", library.display());
     }
     println!("cargo:rustc-link-search=native={}", folder.display());

@@ -70,7 +70,8 @@ TESTS = "TESTS"  # the tests of the crates tests_of_*, where these were built
 CHECKS = [
     # What reads the sources and the pages.
     Check("checks/source/test", "the reader of the sources, and the types of all checks",
-          r"checks/|launcher/|packages/|node/checks/|clients/(c/archive|examples)|bench/(page|clients/run)", 15, takes="a minute", asks="mypy"),
+          r"checks/|launcher/|packages/|node/checks/|clients/(c/archive|examples)|examples/\w+\.py|bench/(page|clients/run)", 15,
+          takes="a minute", asks="mypy"),
     Check("checks/edits/run --list", "each wrong body can be applied and names its promise",
           r"crates/|checks/(edits|source)/|docs/PROOFS", 600),
     Check("checks/tests", "each test names a promise of PROOFS, and each worked row is there",

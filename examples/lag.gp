@@ -1,8 +1,9 @@
 # A picture of the lag of a site: gnuplot -c examples/lag.gp LAG PICTURE
-# LAG is a file with what `ordup lag` printed, or the header and a stretch of its rows, and PICTURE the PNG to write. There is a
-# panel for each limit. What is acknowledged of a place that waited is nothing: the site had reported it by then. The colours are told
-# apart by readers who are colour-blind too, and each thing has a form of its own.
+# LAG is a file with what `ordup lag` printed, or the header and a stretch of its rows, named after the site, and PICTURE the PNG to
+# write. There is a panel for each limit. What is acknowledged of a place that waited is nothing: the site had reported it by then. The
+# colours are told apart by readers who are colour-blind too, and each thing has a form of its own.
 lag = ARG1
+site = system(sprintf("basename '%s' | cut -d . -f 1", lag))
 cell(line, column) = system(sprintf("%s -n 1 '%s' | cut -d , -f %d", line, lag, column))
 columns = int(system(sprintf("head -n 1 '%s' | tr , '\n' | wc -l", lag)))
 limits = (columns - 4) / 2
@@ -19,9 +20,11 @@ unit(scope) = scope eq "count" ? "updates" : "units of the values"
 
 set datafile separator comma
 stats lag skip 1 using window name "WINDOW" nooutput
-set terminal pngcairo size 800, 120 + 260 * limits font "DejaVu Sans,11"
+height = 145.0 + 260 * limits
+set terminal pngcairo size 800, height font "DejaVu Sans,11"
 set output ARG2
-set multiplot layout limits, 1 margins 0.12, 0.96, 65.0 / (120 + 260 * limits), 1 - 70.0 / (120 + 260 * limits) spacing 0, 60.0 / (120 + 260 * limits)
+set label 2 "site ".site at screen 0.12, screen 1 - 22 / height left noenhanced font ",14"
+set multiplot layout limits, 1 margins 0.12, 0.96, 65 / height, 1 - 95 / height spacing 0, 60 / height
 set tics nomirror out
 set border 3
 set xrange [first - 0.5:last + 0.5]
@@ -37,6 +40,7 @@ do for [i = 1:limits] {
     top = top > 0 ? top : 1
     if (top <= 10) { set ytics 1 } else { set ytics autofreq }
     set yrange [0:top]
+    if (i > 1) { unset label 2 }
     set label 1 scope(weight) at graph 0, graph 1.06 left noenhanced
     set ylabel unit(scope(weight))
     set xlabel i == limits ? "place in the log (updates)" : ""

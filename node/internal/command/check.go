@@ -367,7 +367,10 @@ func (c *checkup) declarations(file string) {
 		c.wrongAt("declarations", exit.Environment, "%v", err)
 		return
 	}
-	err = epoch.Check(c.program.Open, &script.Settings{Every: 1, Remembers: 1}, epoch.Declarations(string(text)))
+	declarations, err := epoch.Declarations(string(text))
+	if err == nil {
+		err = epoch.Check(c.program.Open, &script.Settings{Every: 1, Remembers: 1}, declarations)
+	}
 	if err != nil {
 		c.wrongAt("declarations", exit.Words, "%s: %v", file, err)
 	}

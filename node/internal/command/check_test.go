@@ -158,6 +158,8 @@ func TestSettingsAreChecked(t *testing.T) {
 			"", "", 0, ":3: warning: copies: the engine drops an epoch once one host has its archive"},
 		{"declarations that a store refuses", engine + "declarations = " + declared + "\n",
 			"", "", 2, ":2: error: declarations: " + declared},
+		{"declarations of Windows", engine + "declarations = " + tokens("object tea 4\r\nstart\r\n") + "\n",
+			"", "", 2, "line 1 of the declarations, \"object tea 4\\r\", ends with CRLF"},
 		{"primaries that are no addresses", engine + "primaries = 10.0.0.4:7002\n",
 			"", "", 2, ":2: error: primaries: \"10.0.0.4:7002\" is no address"},
 		{"a primary without a folder", engine, "--as primary", "", 2, "error: archive: the folder is missing"},

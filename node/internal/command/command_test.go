@@ -229,7 +229,7 @@ func TestADeploymentFromItsBeginningToItsEnd(t *testing.T) {
 	deployment.is(1, "has not begun", "next", "--from", "7")
 	deployment.is(0, "ok relimit far 1 epoch 2\n", "relimit", "far", "count", "7")
 	deployment.is(0, "refused 8 UnknownSite\n", "relimit", "nowhere", "count", "none")
-	deployment.is(2, "no declaration", "next", file(t, "bad", "\xff\n"))
+	deployment.is(2, "line 1 of the declarations", "next", file(t, "bad", "\xff\n"))
 	deployment.is(0, "epoch 3\n", "next", file(t, "without", strings.Replace(shop, "site far 1\n", "", 1)))
 	if status, log := deployment.ended("east"); status != exit.NotInScript || !strings.Contains(log, "has no site far") {
 		t.Error(status, log)

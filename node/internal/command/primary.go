@@ -9,6 +9,7 @@ import (
 	"ordup.dev/node/internal/archive"
 	"ordup.dev/node/internal/engine"
 	"ordup.dev/node/internal/epoch"
+	"ordup.dev/node/internal/exit"
 	"ordup.dev/node/internal/numbers"
 	"ordup.dev/node/internal/primary"
 	"ordup.dev/node/internal/serve"
@@ -62,7 +63,9 @@ func (p *primaryOwn) config(program *Program) (config primary.Config, err error)
 		if err != nil {
 			return config, fmt.Errorf("declarations: %w", err)
 		}
-		config.Declarations = epoch.Declarations(string(text))
+		if config.Declarations, err = epoch.Declarations(string(text)); err != nil {
+			return config, exit.With(exit.Words, fmt.Errorf("%s: %w", p.declarations, err))
+		}
 	}
 	if err = archive.MakeFolder(p.archive); err != nil {
 		return config, fmt.Errorf("archive: %w", err)
@@ -93,7 +96,7 @@ func (p *primaryOwn) run(ctx context.Context, program *Program) error {
 		Page: numbers.PageOfPrimary(config.Host, lag, process.Status)}, process, serve.NewPasser(config.Address, secure), seen.Waited)
 	program.Log.Info("starts", "command", "primary", "version", program.name(), "host", config.Host, "address", config.Address)
 	return p.serving.run(ctx, program.Log, handler, func(ctx context.Context) error {
-		go lag.Run(ctx, process.Status)
+		go lag.RunOfPrimary(ctx, process.Status)
 		return process.Run(ctx)
 	})
 }

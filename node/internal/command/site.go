@@ -65,6 +65,7 @@ func (s *siteOwn) run(ctx context.Context, program *Program) error {
 	if err != nil {
 		return err
 	}
+	lag := &numbers.Lag{}
 	seen := numbers.OfSite(program.version(), s.name, s.serving.open, process.Status)
 	seen.Shows(certificates(&s.serving, &s.engine))
 	handler := serve.NewSite(serve.Config{Guard: &s.serving.guard, Requests: s.serving.mostRequests(),
@@ -73,9 +74,12 @@ func (s *siteOwn) run(ctx context.Context, program *Program) error {
 				return site.ErrNotServing
 			}
 			return nil
-		}, Numbers: seen.Handler(), Page: numbers.PageOfSite(s.name, process.Status)}, s.name, process)
+		}, Numbers: seen.Handler(), Page: numbers.PageOfSite(s.name, lag, process.Status)}, s.name, process)
 	program.Log.Info("starts", "command", "site", "version", program.name(), "host", config.Host, "site", s.name)
-	return s.serving.run(ctx, program.Log, handler, process.Run)
+	return s.serving.run(ctx, program.Log, handler, func(ctx context.Context) error {
+		go lag.RunOfSite(ctx, s.name, process.Status)
+		return process.Run(ctx)
+	})
 }
 
 // fleetOwn are the settings of a fleet.

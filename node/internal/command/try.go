@@ -31,7 +31,11 @@ func trySettings(program *Program, set *settings.Set) func(context.Context, []st
 		if err != nil {
 			return exit.With(exit.Words, err)
 		}
-		return own.run(ctx, program, words[0], epoch.Declarations(string(text)))
+		declarations, err := epoch.Declarations(string(text))
+		if err != nil {
+			return exit.With(exit.Words, fmt.Errorf("%s: %w", words[0], err))
+		}
+		return own.run(ctx, program, words[0], declarations)
 	}
 }
 

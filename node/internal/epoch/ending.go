@@ -44,16 +44,27 @@ var (
 	ErrNotYet = errors.New("the epoch that is to end has not begun")
 )
 
-// Declarations are the lines of a text that are no comments and not blank.
-func Declarations(text string) []string {
+// Declarations are the lines of a text that are no comments and not blank, with one space between words. It refuses the lines in which
+// `ordup run` finds no words: those with another byte than from space to `~`, as a CR or a tab.
+func Declarations(text string) ([]string, error) {
 	lines := []string{}
-	for _, line := range strings.Split(text, "\n") {
-		line = strings.Join(strings.Fields(line), " ")
-		if line != "" && line[0] != '#' {
-			lines = append(lines, line)
+	for at, line := range strings.Split(text, "\n") {
+		if strings.HasPrefix(line, "#") {
+			continue
+		}
+		words := strings.Join(strings.Fields(line), " ")
+		switch {
+		case strings.HasSuffix(line, "\r"):
+			return nil, fmt.Errorf("line %d of the declarations, %.60q, ends with CRLF, and not with LF alone: tr -d '\\r' makes it so", at+1, line)
+		case !script.IsPrintable(line):
+			return nil, fmt.Errorf("line %d of the declarations, %.60q, has a byte that is not from space to ~", at+1, line)
+		case strings.HasPrefix(words, "#"):
+			return nil, fmt.Errorf("line %d of the declarations, %.60q, is no comment: the # of one is its first byte", at+1, line)
+		case words != "":
+			lines = append(lines, words)
 		}
 	}
-	return lines
+	return lines, nil
 }
 
 // Check tells why no store starts with these declarations, or why these settings are none.
@@ -330,7 +341,10 @@ func (c *Core) following() (script.Settings, []string, error) {
 	if err != nil {
 		return script.Settings{}, nil, fmt.Errorf("declare what comes after the epoch %d: %w", c.epoch, err)
 	}
-	declarations := Declarations(text)
+	declarations, err := Declarations(text)
+	if err != nil {
+		return script.Settings{}, nil, err
+	}
 	if c.wish == nil || len(c.wish.Declarations) == 0 {
 		return c.nextSettings(), declarations, nil
 	}

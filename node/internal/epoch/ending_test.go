@@ -206,6 +206,33 @@ func TestAWishReplacesAnother(t *testing.T) {
 	is(t, fmt.Sprint(world.core.clients), fmt.Sprint(world.replay(config("p2")).clients))
 }
 
+// The rules for lines are those of docs/FORMATS.md, 'Lines', by which `ordup run` goes.
+func TestDeclarationsAreLinesOfAScript(t *testing.T) {
+	t.Parallel()
+	for text, wants := range map[string][]string{
+		"":                                  {},
+		"object  tea 4\n\n  \n start ":      {"object tea 4", "start"},
+		"# of Windows, \u00e9\t\r\nstart\n": {"start"},
+		"#start":                            {},
+	} {
+		lines, err := Declarations(text)
+		is(t, []any{wants, nil}, []any{lines, err})
+	}
+	for text, says := range map[string]string{
+		"object tea 4\nstart\r\n": `line 2 of the declarations, "start\r", ends with CRLF`,
+		"\r\nstart\n":             `line 1 of the declarations, "\r", ends with CRLF`,
+		"object\ttea 4\n":         "has a byte that is not from space to ~",
+		"\ufeffobject tea 4\n":    "line 1 of",
+		"\u00a0\n":                "line 1 of",
+		"start\n # the end\n":     "line 2 of the declarations, \" # the end\", is no comment",
+	} {
+		lines, err := Declarations(text)
+		if lines != nil || err == nil || !strings.Contains(err.Error(), says) {
+			t.Errorf("%q is %v, %v", text, lines, err)
+		}
+	}
+}
+
 func TestWishesThatCannotBe(t *testing.T) {
 	t.Parallel()
 	world := newWorld(t, settings, shop)

@@ -109,7 +109,11 @@ func (a *Audit) follows(number int64, entry *script.Entry) error {
 	if err != nil {
 		return &epoch.BrokenError{Number: number, Why: fmt.Sprintf("the epoch before it has not ended: %v", err)}
 	}
-	ends, values := epoch.Declarations(text), map[string]string{}
+	ends, err := epoch.Declarations(text)
+	if err != nil {
+		return &epoch.BrokenError{Number: number, Why: err.Error()}
+	}
+	values := map[string]string{}
 	for _, line := range ends {
 		if words := strings.Fields(line); words[0] == "object" {
 			values[words[1]] = line

@@ -9,12 +9,13 @@ import (
 	"time"
 
 	"ordup.dev/node/internal/primary"
+	"ordup.dev/node/internal/site"
 )
 
 // mostPoints is how many points the picture of the lag has, one each pointTime: five minutes.
 const mostPoints, pointTime = 300, time.Second
 
-// A Lag keeps how many updates each site missed in the last minutes.
+// A Lag keeps how many updates each site missed in the last minutes, as a primary or as the site itself knows.
 type Lag struct {
 	lock sync.Mutex
 	// Points are by site, the last one at the end. One of -1 is none.
@@ -22,13 +23,27 @@ type Lag struct {
 	names  []string
 }
 
-// Run looks at the sites each second, until the context ends.
-func (l *Lag) Run(ctx context.Context, status func() primary.Status) {
+// RunOfPrimary looks at the sites each second, until the context ends.
+func (l *Lag) RunOfPrimary(ctx context.Context, status func() primary.Status) {
+	l.run(ctx, func() {
+		now := status()
+		l.add(&now)
+	})
+}
+
+// RunOfSite looks at a site each second, until the context ends.
+func (l *Lag) RunOfSite(ctx context.Context, name string, status func() site.Status) {
+	l.run(ctx, func() {
+		now := status()
+		l.addSite(name, &now)
+	})
+}
+
+func (l *Lag) run(ctx context.Context, look func()) {
 	ticker := time.NewTicker(pointTime)
 	defer ticker.Stop()
 	for {
-		now := status()
-		l.add(&now)
+		look()
 		select {
 		case <-ticker.C:
 		case <-ctx.Done():
@@ -38,14 +53,23 @@ func (l *Lag) Run(ctx context.Context, status func() primary.Status) {
 }
 
 func (l *Lag) add(status *primary.Status) {
-	l.lock.Lock()
-	defer l.lock.Unlock()
-	missing := map[string]int64{}
-	l.names = nil
+	names, missing := []string{}, map[string]int64{}
 	for _, site := range status.Core.Sites {
 		missing[site.Name] = site.Missing
-		l.names = append(l.names, site.Name)
+		names = append(names, site.Name)
 	}
+	l.point(names, missing)
+}
+
+func (l *Lag) addSite(name string, status *site.Status) {
+	l.point([]string{name}, map[string]int64{name: status.Lag()})
+}
+
+// point puts a point at the end of each line.
+func (l *Lag) point(names []string, missing map[string]int64) {
+	l.lock.Lock()
+	defer l.lock.Unlock()
+	l.names = names
 	points := map[string][]int64{}
 	for name, now := range missing {
 		line := append(l.points[name], now)

@@ -93,6 +93,28 @@ func TestThePageOfAPrimary(t *testing.T) {
 	has(t, get(t, PageOfPrimary("p1", lag, func() primary.Status { return other })), "knows of no primary that writes", "The engine is full")
 }
 
+func TestThePageOfASite(t *testing.T) {
+	t.Parallel()
+	now := site.Status{Serves: true, Place: 9, Told: 4, Acknowledged: 7, Values: map[string]int64{"tea": -5, "milk": 3}, Imports: map[string]int64{"tea": 2},
+		Limits:  script.Limits{{Scope: "count", Amount: 3}, {Scope: "object tea", Amount: 20}, {Scope: "all", Amount: script.MostAmount}},
+		HasSeen: true, Since: 107074 * time.Microsecond, Lease: 2664 * time.Millisecond, Entry: 1_234_567}
+	lag := &Lag{}
+	for at := int64(0); at <= 4; at++ {
+		now.Told = at
+		lag.addSite("north", &now)
+	}
+	row := func(cells ...string) string {
+		return "<tr><td class=\"\">" + cells[0] + "</td><td class=\"n\">" + cells[1] + "</td><td class=\"n" + cells[2] + "</td></tr>"
+	}
+	has(t, get(t, PageOfSite("north", lag, func() site.Status { return now })), "It serves readers.", "the site north",
+		row("count", "3 updates", " bad\">3 updates"), row("object tea", "20", "\">3 updates"), row("all", "none", "\">3 updates"),
+		row("milk", "3", "\">0")+"\n"+row("tea", "-5", "\">2"), "as told by this site</h2><svg", `class="left">7</text>`,
+		">2.7 s<", ">0.1 s<", ">1234567<", "whether the site serves readers</td><td class=\"n\">yes<")
+	if now = (site.Status{Told: 4}); now.Lag() != 0 {
+		t.Error("there is a lag of what is not acknowledged")
+	}
+}
+
 func TestNumbersOfASiteAndAFleet(t *testing.T) {
 	t.Parallel()
 	now := site.Status{Serves: true, Entry: 9, Epoch: 2, Place: 5, Told: 4, HasTold: true, ToldSince: time.Second, Readers: 3, HasSeen: true, Since: time.Second}
@@ -100,9 +122,12 @@ func TestNumbersOfASiteAndAFleet(t *testing.T) {
 	has(t, get(t, OfSite("1", "north", zero, seen).Handler()), `ordup_site_serves{site="north"} 1`, `ordup_site_applied_updates{site="north"} 5`,
 		`ordup_site_reported_updates{site="north"} 4`, `ordup_site_told_seconds{site="north"} 1`, "ordup_readers_total 3", "ordup_last_entry_seconds 1",
 		`ordup_process_info{kind="site"} 1`)
-	has(t, get(t, PageOfSite("north", seen)), "It serves readers.", "the site north")
-	now.Serves = false
-	has(t, get(t, PageOfSite("north", seen)), "It serves no reader now.")
+	now.Serves, now.Values = false, nil
+	text := get(t, PageOfSite("north", &Lag{}, seen))
+	has(t, text, "It serves no reader now.")
+	if strings.Contains(text, "Values") {
+		t.Error("it has values that nobody is served")
+	}
 	far := fleet.Status{Looked: true, Members: []fleet.MemberStatus{
 		{Place: epoch.Place{Member: "east", Epoch: 2, Applied: 5}, Told: time.Second}, {Place: epoch.Place{Member: "west"}}}}
 	members := func() fleet.Status { return far }

@@ -5,6 +5,8 @@ import (
 	"fmt"
 	"html/template"
 	"net/http"
+	"sort"
+	"strconv"
 	"strings"
 	"time"
 
@@ -23,10 +25,10 @@ table{border-collapse:collapse} td,th{padding:.25em 1em;text-align:left;border-b
 td.n,th.n{text-align:right;font-variant-numeric:tabular-nums} .bad{color:#b00020;font-weight:bold}
 svg{width:100%;border:1px solid #ccc} svg text{font:12px sans-serif} .left{text-anchor:end} .grid{stroke:#ddd}</style></head>
 <body><h1>{{.Title}}</h1>{{range .Says}}<p{{if .Bad}} class="bad"{{end}}>{{.Text}}</p>
-{{end}}{{if .Rows}}<h2>Sites</h2><table><tr>{{range .Heads}}<th class="{{if .N}}n{{end}}">{{.Text}}</th>{{end}}</tr>
+{{end}}{{range .Tables}}{{if .Rows}}<h2>{{.Title}}</h2><table><tr>{{range .Heads}}<th class="{{if .N}}n{{end}}">{{.Text}}</th>{{end}}</tr>
 {{range .Rows}}<tr>{{range .}}<td class="{{if .N}}n{{end}}{{if .Bad}} bad{{end}}">{{.Text}}</td>{{end}}</tr>
-{{end}}</table>{{end}}
-{{if .Picture}}<h2>Updates that each site misses</h2>{{.Picture}}{{end}}
+{{end}}</table>{{end}}{{end}}
+{{if .Picture}}<h2>{{.Drawn}}</h2>{{.Picture}}{{end}}
 <h2>Numbers</h2><table>{{range .Facts}}<tr><td>{{.Name}}</td><td class="n">{{.Text}}</td></tr>
 {{end}}</table><p>All numbers are at <a href="metrics">metrics</a>.</p></body></html>
 `))
@@ -37,11 +39,19 @@ type cell struct {
 	N, Bad     bool
 }
 
+// A table has its rows below heads, or is left out where there is no row.
+type table struct {
+	Title string
+	Heads []cell
+	Rows  [][]cell
+}
+
 type content struct {
-	Title   string
-	Says    []cell
-	Heads   []cell
-	Rows    [][]cell
+	Title  string
+	Says   []cell
+	Tables []table
+	// Drawn is what the picture shows.
+	Drawn   string
 	Picture template.HTML
 	Facts   []cell
 }
@@ -66,14 +76,15 @@ func serve(look func() content) http.Handler {
 func PageOfPrimary(host string, lag *Lag, status func() primary.Status) http.Handler {
 	return serve(func() content {
 		now := status()
-		shown := content{Title: "ordup: the primary at " + host, Says: saysOf(&now), Picture: lag.Picture(), Facts: facts(ofPrimary(&now))}
+		sites := table{Title: "Sites"}
 		for _, name := range []string{"site", "applied", "misses", "limits", "rounds", "told", "waited for"} {
-			shown.Heads = append(shown.Heads, cell{Text: name, N: name == "applied" || name == "misses" || name == "rounds" || name == "told"})
+			sites.Heads = append(sites.Heads, cell{Text: name, N: name == "applied" || name == "misses" || name == "rounds" || name == "told"})
 		}
 		for _, site := range now.Core.Sites {
-			shown.Rows = append(shown.Rows, rowOf(&now, &site))
+			sites.Rows = append(sites.Rows, rowOf(&now, &site))
 		}
-		return shown
+		return content{Title: "ordup: the primary at " + host, Says: saysOf(&now), Tables: []table{sites},
+			Drawn: "Updates that each site misses", Picture: lag.Picture(), Facts: facts(ofPrimary(&now))}
 	})
 }
 
@@ -147,22 +158,55 @@ func saysOf(status *primary.Status) []cell {
 	return says
 }
 
-// PageOfSite is the page of a site.
-func PageOfSite(name string, status func() site.Status) http.Handler {
+// PageOfSite is the page of a site. It has the values while readers are served.
+func PageOfSite(name string, lag *Lag, status func() site.Status) http.Handler {
 	return serve(func() content {
 		now, says := status(), cell{Text: "It serves readers."}
 		if !now.Serves {
 			says = cell{Text: "It serves no reader now.", Bad: true}
 		}
-		return content{Title: "ordup: the site " + name, Says: []cell{says}, Facts: facts(ofSite(name, &now))}
+		return content{Title: "ordup: the site " + name, Says: []cell{says}, Tables: []table{limitsOfSite(&now), valuesOf(&now)},
+			Drawn: "Acknowledged updates that the script does not have as told by this site", Picture: lag.Picture(), Facts: facts(ofSite(name, &now))}
 	})
+}
+
+// limitsOfSite has each limit, and beside it how many acknowledged updates the script does not have as told. What they weigh on a scope
+// that is no count the primary tells.
+func limitsOfSite(now *site.Status) table {
+	limits := table{Title: "Limits", Heads: []cell{{Text: "limit"}, {Text: "at most", N: true}, {Text: "acknowledged, and not told", N: true}}}
+	for _, limit := range now.Limits {
+		most, isOfCount := fmt.Sprint(limit.Amount), limit.Scope == "count"
+		switch {
+		case limit.Amount == script.MostAmount:
+			most = "none"
+		case isOfCount:
+			most += " updates"
+		}
+		limits.Rows = append(limits.Rows, []cell{{Text: limit.Scope}, {Text: most, N: true},
+			{Text: fmt.Sprintf("%d updates", now.Lag()), N: true, Bad: isOfCount && now.Lag() > 0 && now.Lag() >= limit.Amount}})
+	}
+	return limits
+}
+
+// valuesOf has each value that readers are served, and how far it may be from what the acknowledged updates make of it.
+func valuesOf(now *site.Status) table {
+	values := table{Title: "Values", Heads: []cell{{Text: "object"}, {Text: "value", N: true}, {Text: "import, at most", N: true}}}
+	objects := make([]string, 0, len(now.Values))
+	for object := range now.Values {
+		objects = append(objects, object)
+	}
+	sort.Strings(objects)
+	for _, object := range objects {
+		values.Rows = append(values.Rows, []cell{{Text: object}, {Text: fmt.Sprint(now.Values[object]), N: true}, {Text: fmt.Sprint(now.Imports[object]), N: true}})
+	}
+	return values
 }
 
 // PageOfFleet is the page of a fleet.
 func PageOfFleet(name string, status func() fleet.Status) http.Handler {
 	return serve(func() content {
-		shown := content{Title: "ordup: the fleet " + name,
-			Heads: []cell{{Text: "site"}, {Text: "epoch", N: true}, {Text: "applied", N: true}, {Text: "told", N: true}}}
+		shown := content{Title: "ordup: the fleet " + name}
+		members := table{Title: "Sites", Heads: []cell{{Text: "site"}, {Text: "epoch", N: true}, {Text: "applied", N: true}, {Text: "told", N: true}}}
 		now := status()
 		if !now.Looked {
 			shown.Says = append(shown.Says, cell{Text: "It tells nothing: the engine does not answer.", Bad: true})
@@ -175,9 +219,10 @@ func PageOfFleet(name string, status func() fleet.Status) http.Handler {
 			if member.Place.Epoch > 0 {
 				told = ago(member.Told)
 			}
-			shown.Rows = append(shown.Rows, []cell{{Text: member.Place.Member}, {Text: fmt.Sprint(member.Place.Epoch), N: true},
+			members.Rows = append(members.Rows, []cell{{Text: member.Place.Member}, {Text: fmt.Sprint(member.Place.Epoch), N: true},
 				{Text: fmt.Sprint(member.Place.Applied), N: true}, {Text: told, N: true, Bad: told == "not yet"}})
 		}
+		shown.Tables = []table{members}
 		return shown
 	})
 }
@@ -185,9 +230,25 @@ func PageOfFleet(name string, status func() fleet.Status) http.Handler {
 func facts(samples []sample) []cell {
 	rows := []cell{}
 	for _, each := range samples {
-		rows = append(rows, cell{Name: each.help, Text: fmt.Sprintf("%.6g", each.value), N: true})
+		rows = append(rows, cell{Name: each.help, Text: each.text(), N: true})
 	}
 	return rows
+}
+
+// text is the number as a person reads it, with its unit where the help does not say what is counted.
+func (s sample) text() string {
+	plain := strconv.FormatFloat(s.value, 'f', -1, 64)
+	switch {
+	case strings.HasSuffix(s.name, "_seconds"):
+		return ago(time.Duration(s.value * float64(time.Second)))
+	case strings.HasSuffix(strings.TrimSuffix(s.name, "_total"), "_bytes"):
+		return plain + " bytes"
+	case strings.HasPrefix(s.help, "whether ") && s.value == 1:
+		return "yes"
+	case strings.HasPrefix(s.help, "whether "):
+		return "no"
+	}
+	return plain
 }
 
 func ago(since time.Duration) string { return fmt.Sprintf("%.1f s", since.Seconds()) }

@@ -35,7 +35,8 @@ func TestAPrimaryComesBackAfterAnyWish(t *testing.T) {
 		change func(*primary.Config)
 		says   []string
 	}{
-		{func(config *primary.Config) { config.Declarations = other }, []string{epoch.DigestOf(other), epoch.DigestOf(shop)}},
+		{func(config *primary.Config) { config.Declarations = other }, []string{"this primary has the setting declarations: lines of the digest " + epoch.DigestOf(other) +
+			", and the script began with lines of the digest " + epoch.DigestOf(shop) + ": "}},
 		{func(config *primary.Config) { config.Every = 500 }, []string{"500 ", "1000 "}},
 		{func(config *primary.Config) { config.Remembers = 7 }, []string{"7 ", "2 "}},
 		{func(config *primary.Config) { config.Seconds = 30 }, []string{"30 ", "600 "}},

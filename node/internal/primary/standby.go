@@ -130,20 +130,22 @@ func (p *Primary) agrees(core *epoch.Core) error {
 	case p.agreed:
 		return nil
 	case own.Every != 0 && own.Every != began.Every:
-		return differs("every: %d requests, and %d", own.Every, began.Every)
+		return differs("every", "%d requests", own.Every, began.Every)
 	case own.Remembers != 0 && own.Remembers != began.Remembers:
-		return differs("remembers: %d epochs, and %d", own.Remembers, began.Remembers)
+		return differs("remembers", "%d epochs", own.Remembers, began.Remembers)
 	case own.Seconds != 0 && own.Seconds != began.Seconds:
-		return differs("remembers-seconds: %d seconds, and %d", own.Seconds, began.Seconds)
+		return differs("remembers-seconds", "%d seconds", own.Seconds, began.Seconds)
 	case len(own.Declarations) > 0 && digest != began.Origin:
-		return differs("declarations: those of the digest %s, and %s", digest, began.Origin)
+		return differs("declarations", "lines of the digest %s", digest, began.Origin)
 	}
 	p.agreed = true
 	return nil
 }
 
-func differs(format string, own, began any) error {
-	return exit.With(exit.Words, fmt.Errorf("the script did not begin with these settings, "+format, own, began))
+// differs says which setting is this primary's own, with which one the script began, and what to do.
+func differs(setting, format string, own, began any) error {
+	return exit.With(exit.Words, fmt.Errorf("this primary has the setting %s: "+format+", and the script began with "+format+
+		": start the primary with those, or without %s (`ordup-node next` changes what an epoch begins with)", setting, own, began, setting))
 }
 
 // catchUp runs all that the script has.

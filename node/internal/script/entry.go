@@ -133,20 +133,21 @@ func IsName(name string) bool {
 }
 
 // IsChanges is whether a request may have this text: at most 4,000 bytes from space to `~`.
-func IsChanges(text string) bool { return len(text) <= MostChangesBytes && isPrintable(text) }
+func IsChanges(text string) bool { return len(text) <= MostChangesBytes && IsPrintable(text) }
 
 // IsNumber is whether a request may have this number.
 func IsNumber(number int64) bool { return 1 <= number && number <= MostNumber }
 
 // IsWord is whether a text is one word of at most so many bytes: a version, a digest, the name of a writer.
 func IsWord(text string, most int) bool {
-	return 1 <= len(text) && len(text) <= most && isPrintable(text) && !strings.Contains(text, " ")
+	return 1 <= len(text) && len(text) <= most && IsPrintable(text) && !strings.Contains(text, " ")
 }
 
 func isSmall(sign byte) bool { return 'a' <= sign && sign <= 'z' }
 func isDigit(sign byte) bool { return '0' <= sign && sign <= '9' }
 
-func isPrintable(text string) bool {
+// IsPrintable is whether all bytes of a text are from space to `~`, as those of the lines of a script are.
+func IsPrintable(text string) bool {
 	return all(text, func(sign byte) bool { return ' ' <= sign && sign <= '~' })
 }
 

@@ -101,7 +101,11 @@ func (p *Primary) next(ctx context.Context, asked *request) (any, error) {
 	if next.From < 1 || next.Every < 0 || next.Remembers < 0 || next.RemembersSeconds < 0 || next.Ordup != "" && !script.IsWord(next.Ordup, 64) {
 		return nil, malformed(errors.New("from is the epoch that is to end, and the settings are no less than 0"))
 	}
-	wish := epoch.Wish{From: next.From, Declarations: epoch.Declarations(next.Declarations), Replaces: next.Replaces,
+	declarations, err := epoch.Declarations(next.Declarations)
+	if err != nil {
+		return nil, malformed(err)
+	}
+	wish := epoch.Wish{From: next.From, Declarations: declarations, Replaces: next.Replaces,
 		Settings: script.Settings{Every: next.Every, Remembers: next.Remembers, Seconds: next.RemembersSeconds, Ordup: next.Ordup}}
 	begun, err := p.writer.Next(ctx, wish)
 	if err != nil {

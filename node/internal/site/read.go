@@ -7,6 +7,7 @@ import (
 	"time"
 
 	"ordup.dev/node/internal/clock"
+	"ordup.dev/node/internal/script"
 )
 
 // ErrNotServing says that this process serves no reader: it has no lease, has not reached the end that the script had when it got it, or
@@ -105,6 +106,11 @@ func (s *Shown) isFar() bool {
 type Status struct {
 	Serves              bool
 	Entry, Epoch, Place int64
+	// Acknowledged is how many updates are acknowledged. Limits are those of the site.
+	Acknowledged int64
+	Limits       script.Limits
+	// Values and imports are those that readers are served. Nobody changes them.
+	Values, Imports map[string]int64
 	// Told is how much of it stands in the script as told. ToldSince is since when a place was taken, if one was.
 	Told      int64
 	ToldSince time.Duration
@@ -118,13 +124,25 @@ type Status struct {
 	EngineFailures int64
 }
 
+// Lag is how many acknowledged updates the script does not have as told.
+func (s *Status) Lag() int64 {
+	if s.Acknowledged < s.Told {
+		return 0
+	}
+	return s.Acknowledged - s.Told
+}
+
 // Status tells what there is.
 func (s *Site) Status() Status {
-	status := Status{Serves: s.served() != nil, Readers: s.readers.Load(), EngineFailures: s.config.Engine.Failures()}
+	status := Status{Readers: s.readers.Load(), EngineFailures: s.config.Engine.Failures()}
+	if served := s.served(); served != nil {
+		status.Serves, status.Values, status.Imports = true, served.Values, served.Imports
+	}
 	s.lock.Lock()
 	if shown := s.view.shown; shown != nil {
 		status.Since, status.HasSeen = clock.Now()-s.shownAt, true
 		status.Entry, status.Epoch, status.Place, status.Told = shown.Entry, shown.Epoch, shown.Place, shown.Told
+		status.Acknowledged, status.Limits = shown.Acknowledged, shown.Limits
 	}
 	s.lock.Unlock()
 	if told := s.toldAt.Load(); told > 0 {

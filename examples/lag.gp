@@ -1,7 +1,8 @@
 # A picture of the lag of a site: gnuplot -c examples/lag.gp LAG PICTURE
-# LAG is a file with what `ordup lag` printed, or the header and a stretch of its rows, named after the site, and PICTURE the PNG to
-# write. There is a panel for each limit. What is acknowledged of a place that waited is nothing: the site had reported it by then. The
-# colours are told apart by readers who are colour-blind too, and each thing has a form of its own.
+# LAG is a file with what `ordup lag` printed, or a header and a stretch of rows, also of epochs with limits on the same scopes. It is
+# named after the site. PICTURE is the PNG to write. There is a panel for each limit. What is acknowledged of a place that waited is
+# nothing: the site had reported it by then. The colours are told apart by readers who are colour-blind too, and each thing has a form of
+# its own.
 lag = ARG1
 site = system(sprintf("basename '%s' | cut -d . -f 1", lag))
 cell(line, column) = system(sprintf("%s -n 1 '%s' | cut -d , -f %d", line, lag, column))

@@ -7,6 +7,8 @@ import (
 	"flag"
 	"fmt"
 	"io"
+	"strings"
+	"unicode"
 
 	"ordup.dev/node/internal/exit"
 	"ordup.dev/node/internal/logs"
@@ -100,10 +102,29 @@ func (p *Program) run(ctx context.Context, command *command, words []string) exi
 	} else {
 		err = run(ctx, rest)
 	}
-	if err != nil {
+	switch {
+	case err == nil:
+	case command.serves():
 		p.Log.Error("ends", "command", command.name, "status", int(exit.Of(err)), "why", err)
+	default:
+		fmt.Fprintf(p.Err, "ordup-node %s: %s\n", command.name, printable(err.Error()))
 	}
 	return exit.Of(err)
+}
+
+// serves is whether it is a process that goes on, and has a log. Another command is typed, and tells a person.
+func (c *command) serves() bool {
+	return c.name == "primary" || c.name == "site" || c.name == "fleet" || c.name == "try"
+}
+
+// printable is a text in one line without signs that a terminal obeys.
+func printable(text string) string {
+	return strings.Map(func(sign rune) rune {
+		if !unicode.IsPrint(sign) {
+			return ' '
+		}
+		return sign
+	}, text)
 }
 
 // isKnown is whether a command has a setting of this key.

@@ -100,7 +100,7 @@ func TestWordsAndSettingsThatAreWrongAreNamed(t *testing.T) {
 	}{
 		{2, "there is no flag --evry", "primary --evry 7"},
 		{2, "for --every", "primary --every -1"},
-		{2, "is no setting", "primary north"},
+		{2, "error ends command=primary status=2 why=\"\\\"north\\\" is no setting\"\n", "primary north"},
 		{2, "archive: the folder is missing", "primary " + engine},
 		{2, "engine: the addresses of the members are missing", "primary " + archive},
 		{2, "engine: ", "primary --engine 127.0.0.1 " + archive},
@@ -131,7 +131,7 @@ func TestWordsAndSettingsThatAreWrongAreNamed(t *testing.T) {
 		{2, "primaries: ", "update ann 1 add:tea:1"},
 		{2, "is no address", "update --primaries a:1 ann 1 add:tea:1"},
 		{2, "is no number", "update --primaries http://a:1 ann x add:tea:1"},
-		{2, "say a client", "update --primaries http://a:1 ann 1"},
+		{2, "ordup-node update: say a client, a number and at least one change\n", "update --primaries http://a:1 ann 1"},
 		{1, "there is no answer yet", "update --primaries http://127.0.0.1:1 --patience 0.2 ann 1 add:tea:1"},
 		{1, "there is no answer yet", "value --sites http://127.0.0.1:1 --patience 0.2"},
 		{2, "/nowhere", "next --primaries http://127.0.0.1:1 /nowhere"},

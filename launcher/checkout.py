@@ -9,8 +9,9 @@ import os
 import shutil
 import subprocess
 import sys
+from concurrent.futures import Future, wait
 from pathlib import Path
-from typing import Any, Iterable, Iterator, Sequence, Union
+from typing import Any, Iterable, Iterator, Sequence, TypeVar, Union
 
 TOP = Path(__file__).resolve().parent.parent
 sys.path.append(str(TOP / "checks"))
@@ -19,6 +20,8 @@ from source.tree import Crate, below, read_crates
 
 OUT = TOP / "out"
 begun: list[subprocess.Popen[bytes]] = []
+ends: list[bool] = []  # something, once what was begun is to end
+Result = TypeVar("Result")
 
 
 class Failure(Exception):
@@ -40,13 +43,18 @@ def say(what: str) -> None:
 
 
 def begin(words: Sequence[Union[str, Path]], **how: Any) -> subprocess.Popen[bytes]:
-    """Begins a process, which `end_begun` ends."""
+    """Begins a process, which `end_begun` ends, also where that comes from another thread meanwhile."""
+    if ends:
+        raise Failure("it is ended")
     started = subprocess.Popen(words, stdin=subprocess.DEVNULL, **how)
     begun.append(started)
+    if ends:
+        started.kill()
     return started
 
 
 def end_begun() -> None:
+    ends.append(True)
     for it in begun:
         it.terminate()
 
@@ -58,6 +66,13 @@ def output_of(words: Sequence[Union[str, Path]], **how: Any) -> tuple[bytes, int
     except FileNotFoundError:
         return b"", 127
     return started.communicate()[0], started.returncode
+
+
+def result_of(it: Future[Result]) -> Result:
+    """What a thread comes to. The system may give a signal to any thread, and Python heeds it in this one, which so wakes now and then."""
+    while not wait([it], timeout=0.1).done:
+        pass
+    return it.result()
 
 
 def need(command: str, how: str) -> None:

@@ -16,7 +16,7 @@ from pathlib import Path
 from typing import NamedTuple
 
 import unproved
-from checkout import TOP, Failure, need_kit, output_of
+from checkout import TOP, Failure, need_kit, output_of, result_of
 
 ROWS = "checks/rows"  # These are tried file by file.
 # Where it is told how much passed, and how much failed: by `rt try --test`, and in the last line of a check.
@@ -73,7 +73,7 @@ def test() -> int:
         for words in [*([it] for it in names if it != ROWS), *([ROWS, file] for file in files)]:
             tries.append((" ".join(words), pool.submit(check, built, words)))
         try:
-            counted = [tell(name, it.result()) for name, it in tries]
+            counted = [tell(name, result_of(it)) for name, it in tries]
         except SystemExit:
             for _, it in tries:
                 it.cancel()

@@ -42,5 +42,5 @@ pub use record::{Record, RecordParts};
 pub use record_view::RecordView;
 pub use report_change::ReportChange;
 pub use report_changes::ReportChanges;
-pub use rows::member_count;
+pub use rows::{change_row, member_count};
 pub use verdict::{Reason, Verdict};

@@ -9,8 +9,9 @@ use crate::record::Record;
 use ordup_limits::{GroupId, Groups};
 use std::alloc::Allocator;
 
+// promise: as Record::from_parts
 /// The row of a change: the one after the first `index` changes of the update after the first `updates`.
-pub(crate) fn change_row<A: Allocator + Copy>(
+pub fn change_row<A: Allocator + Copy>(
     audited: &Record<A>,
     updates: u64,
     index: usize,

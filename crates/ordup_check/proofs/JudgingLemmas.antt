@@ -8,7 +8,10 @@ use Rattle.ordup_series.specs.declared.verdict.SeriesVerdict.{SeriesVerdict}
 use Rattle.ordup_series.specs.declared.verdict.SeriesVerdict.TheVariants.{Fewest, No}
 use Rattle.ordup_series.proofs.AuditLemmas.{whole-certified, whole-fewest}
 use Rattle.ordup_check.specs.SeriesReading.{TextBeginsSeries, TextTellsSeries, Within}
+use Rattle.ordup_sites.specs.Audits.{IsSitesVerdict}
+use Rattle.ordup_sites.specs.Sites.{AreValidSites}
 use Rattle.ordup_check.specs.SeriesVerdicts.{JudgesText, series_fault}
+use Rattle.ordup_check.specs.SitesVerdicts.{JudgesSites}
 use Rattle.ordup_check.specs.declared.reading.RecordReadFault.{RecordReadFault}
 use Rattle.ordup_check.specs.declared.reading.RecordReadFault.TheVariants as of_record
 use Rattle.ordup_check.specs.declared.series.SeriesReadFault.{SeriesReadFault}
@@ -28,6 +31,13 @@ pub judged-no : (text : List ℕ) (done : List RecordState) (r : RecordState) (v
     → AreValidSeries done → IsSeriesVerdict done r v → IsWholeVerdict done r v → is_yes v ≡ false → JudgesText text v
 judged-no text done r (Fewest n) begins valid is whole other = absurd cc
 judged-no text done r (No place row why) begins valid is whole other = (done, r, begins, valid, is, whole)
+
+-- there is a reason against the next one of several sites
+pub judged-no-sites : (text : List ℕ) (done : List RecordState) (r : RecordState) (v : SeriesVerdict)
+    → Within MOST_SERIES_BYTES (λ t. TextBeginsSeries t (done ++ r ∷ [])) text
+    → AreValidSites done → IsSitesVerdict done r v → is_yes v ≡ false → JudgesSites text v
+judged-no-sites text done r (Fewest n) begins valid is other = absurd cc
+judged-no-sites text done r (No place row why) begins valid is other = (done, r, begins, valid, is)
 
 -- the fault of a series is that of the record at this place
 pub malformed-of : (f : RecordReadFault) (n place row : ℕ) → series_fault f n ≡ of_series.Malformed place row

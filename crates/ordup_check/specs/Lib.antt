@@ -9,4 +9,5 @@ pub mod Answers
 pub mod ShortRows
 pub mod SeriesReading
 pub mod SeriesVerdicts
+pub mod SitesVerdicts
 pub mod SeriesLaws

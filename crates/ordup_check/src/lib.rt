@@ -19,6 +19,7 @@ mod row_columns;
 mod series;
 mod series_reader;
 mod short_rows;
+mod sites;
 pub mod sizes;
 mod stage;
 
@@ -32,3 +33,4 @@ pub use ordup_series::{SeriesAudit, SeriesReason, SeriesVerdict};
 pub use reading::{RecordReadFault, read_record, read_record_within};
 pub use series::{SeriesReadFault, audit_series};
 pub use series_reader::SeriesReader;
+pub use sites::audit_sites;

@@ -93,7 +93,7 @@ fn audit_all<R: Read>(
 }
 
 /// The fault of reading the record at this place of a series, counted from 1.
-fn series_fault(fault: RecordReadFault, place: u64) -> SeriesReadFault
+pub(crate) fn series_fault(fault: RecordReadFault, place: u64) -> SeriesReadFault
     ensures { result ≡ series_fault fault place }
 {
     match fault {

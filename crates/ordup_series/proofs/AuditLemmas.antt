@@ -81,8 +81,8 @@ next-begins q x end is next = record {
 
 differs-begins : (end : EndState) (x : RecordState) (row : ℕ) → DiffersAtRow end x row → BeginsWith end x → ⊥
 differs-begins end x row (inl (site, at)) begins = site begins.site
-differs-begins end x row (inr (inl (site, i, differ, at))) begins = differ.differ (ap (λ (o : Objects). take (i + 1) o) (sym begins.objects))
-differs-begins end x row (inr (inr (site, objects, n, (k, j, differ, within, count), at))) begins =
+differs-begins end x row (inr (site, inl (i, differ, at))) begins = differ.differ (ap (λ (o : Objects). take (i + 1) o) (sym begins.objects))
+differs-begins end x row (inr (site, inr (objects, n, (k, j, differ, within, count), at))) begins =
     differ.differ (ap (take (k + 1)) (sym begins.groups))
 
 -- ---- the audit with one record more

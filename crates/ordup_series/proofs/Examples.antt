@@ -224,7 +224,7 @@ objects-differ : (i : ℕ) (objects : Objects) (test : Objects → Bool) → tak
     → test (take (i + 1) (values 6)) ≡ true → test (take (i + 1) objects) ≡ false
     → DiffersAtRow end (record next { objects = objects }) (i + 2)
 objects-differ i objects test same here there =
-    inr (inl (refl, i, record { same = same; differ = apart test (take (i + 1) (values 6)) (take (i + 1) objects) here there }, refl))
+    inr (refl, inl (i, record { same = same; differ = apart test (take (i + 1) (values 6)) (take (i + 1) objects) here there }, refl))
 
 -- x a bag less than the one before ended with, in row 2
 less : DiffersAtRow end (record next { objects = values 5 }) 2
@@ -259,7 +259,7 @@ other_group : DiffersAtRow end (record next { groups = of_h }) 4
 other_group =
     let is_g : List ℕ → Bool = λ name. bytes_eq name (codes "g") in
     let differ = groups-differ of_h (λ g. is_g (group_at g 0).0) refl refl in
-    inr (inr (refl, refl, 0, (0, 0, differ, inl (apart is_g (codes "g") (codes "h") refl refl, refl), refl), refl))
+    inr (refl, inr (refl, 0, (0, 0, differ, inl (apart is_g (codes "g") (codes "h") refl refl, refl), refl), refl))
 
 -- without its second member, in row 5
 abbrev of_one : GroupList
@@ -270,7 +270,7 @@ fewer_members =
     let differ = groups-differ of_one (λ g. length (group_at g 0).1 == 2) refl refl in
     let members : DifferAfter 1 (0 ∷ 1 ∷ []) (0 ∷ []) =
     record { same = refl; differ = apart (λ m. length m == 2) (0 ∷ 1 ∷ []) (0 ∷ []) refl refl } in
-    inr (inr (refl, refl, 1, (0, 1, differ, inr (refl, members), refl), refl))
+    inr (refl, inr (refl, 1, (0, 1, differ, inr (refl, members), refl), refl))
 
 -- with a group more, in row 6
 abbrev of_two : GroupList
@@ -279,7 +279,7 @@ of_two = (codes "g", 0 ∷ 1 ∷ []) ∷ (codes "h", 0 ∷ []) ∷ []
 more_groups : DiffersAtRow end (record next { groups = of_two }) 6
 more_groups =
     let differ : DifferAfter 1 grouped of_two = record { same = refl; differ = apart (λ g. length g == 1) grouped of_two refl refl } in
-    inr (inr (refl, refl, 2, (1, 0, differ, inl (apart (λ name. length name == 0) [] (codes "h") refl refl, refl), refl), refl))
+    inr (refl, inr (refl, 2, (1, 0, differ, inl (apart (λ name. length name == 0) [] (codes "h") refl refl, refl), refl), refl))
 
 -- so the verdict is no, and no series that begins so is certified as a whole
 verdict-less : IsSeriesVerdict (first ∷ []) (record next { objects = values 5 }) (No 2 2 NotNext)

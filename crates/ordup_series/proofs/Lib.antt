@@ -1,4 +1,4 @@
 pub mod AuditLemmas
-mod DifferLemmas
+pub mod DifferLemmas
 mod Examples
 pub mod SeriesLemmas

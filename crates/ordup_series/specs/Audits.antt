@@ -8,7 +8,7 @@ use Rattle.ordup_audit.specs.declared.verdict.Verdict.TheVariants.{No}
 use Rattle.ordup_series.specs.Ends.{DiffersAtRow, EndState, IsEnd}
 use Rattle.ordup_series.specs.Series.{IsCertified, IsSeries, OfEach, is_within, length_of, rounds_in, series_of}
 use Rattle.ordup_series.specs.declared.audit.SeriesAudit.{SeriesAudit}
-use Rattle.ordup_series.specs.declared.verdict.SeriesReason.TheVariants.{NotNext, OfRecord}
+use Rattle.ordup_series.specs.declared.verdict.SeriesReason.TheVariants.{NotNext, NotSame, OfRecord}
 use Rattle.ordup_series.specs.declared.verdict.SeriesVerdict.{SeriesVerdict}
 use Rattle.ordup_series.specs.declared.verdict.SeriesVerdict.TheVariants as verdict
 
@@ -82,6 +82,7 @@ abbrev pub IsSeriesVerdict : List RecordState → RecordState → SeriesVerdict 
 IsSeriesVerdict done r (verdict.Fewest n) = AreValidSeries (done ++ r ∷ []) × (n ≡ rounds_of (done ++ r ∷ []))
 IsSeriesVerdict done r (verdict.No place row NotNext) =
     (place ≡ length done + 1) × (AreSeries (done ++ r ∷ []) → ⊥) × (end : EndState) × IsLastEnd done (Some end) × DiffersAtRow end r row
+IsSeriesVerdict done r (verdict.No place row NotSame) = ⊥
 IsSeriesVerdict done r (verdict.No place row (OfRecord why)) =
     (place ≡ length done + 1) × AreSeries (done ++ r ∷ []) × (IsValid r → ⊥) × IsVerdict r (No row why)
 

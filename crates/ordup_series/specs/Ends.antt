@@ -52,11 +52,14 @@ MembersDifferAfter n groups others =
     (k : ℕ) × (j : ℕ) × DifferAfter k groups others × GroupsDifferAfter j (group_at groups k) (group_at others k)
     × (n ≡ member_count (take k others) + j)
 
--- the row of a record, counted from 1, at which it first differs from what it should begin with: that of the site, of an object or of
--- a member; or, where objects or members are missing, the one that stands in the place of the first of these
+-- the row of a record, counted from 1, at which its objects and groups first differ from these: that of an object or of a member; or,
+-- where objects or members are missing, the one that stands in the place of the first of these
+abbrev pub TablesDifferAtRow : Objects → GroupList → RecordState → ℕ → Type 0
+TablesDifferAtRow objects groups next row =
+    ((i : ℕ) × DifferAfter i objects next.objects × (row ≡ i + 2))
+    ⊎ ((next.objects ≡ objects) × (n : ℕ) × MembersDifferAfter n groups next.groups × (row ≡ length next.objects + n + 2))
+
+-- the row of a record at which it first differs from what it should begin with: that of the site, or of its objects and groups
 abbrev pub DiffersAtRow : EndState → RecordState → ℕ → Type 0
 DiffersAtRow end next row =
-    ((next.site ≢ end.site) × (row ≡ 1))
-    ⊎ (((next.site ≡ end.site) × (i : ℕ) × DifferAfter i end.objects next.objects × (row ≡ i + 2))
-    ⊎ ((next.site ≡ end.site) × (next.objects ≡ end.objects) × (n : ℕ) × MembersDifferAfter n end.groups next.groups
-    × (row ≡ length next.objects + n + 2)))
+    ((next.site ≢ end.site) × (row ≡ 1)) ⊎ ((next.site ≡ end.site) × TablesDifferAtRow end.objects end.groups next row)

@@ -18,5 +18,5 @@ pub use laws::{
     certified_series_are_valid, certified_series_have_the_fewest_rounds,
     series_have_the_rounds_of_their_records, valid_series_are_certified,
 };
-pub use record_end::objects_at_end;
+pub use record_end::{first_other_row, objects_at_end};
 pub use verdict::{SeriesReason, SeriesVerdict};

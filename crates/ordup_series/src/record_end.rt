@@ -3,7 +3,7 @@ ghost use Rattle.std.specs.Prelude.{◌≡◌, ◌≢◌, ◌≤◌, ◌*◌, If
 ghost use Rattle.ordup_objects.specs.Serial.{IsLegalHistory};
 ghost use Rattle.ordup_objects.specs.Sizes.{most_groups, most_members, most_objects};
 ghost use Rattle.ordup_audit.specs.Records.{history_of};
-ghost use Rattle.ordup_series.specs.Ends.{AreObjectsAtEnd, BeginsWith, DifferAfter, DiffersAtRow, IsEnd, MembersDifferAfter};
+ghost use Rattle.ordup_series.specs.Ends.{AreObjectsAtEnd, BeginsWith, DifferAfter, DiffersAtRow, IsEnd, MembersDifferAfter, TablesDifferAtRow};
 
 use ordup_audit::Record;
 use ordup_limits::{GroupId, Groups};
@@ -66,15 +66,29 @@ impl<A: Allocator + Copy> RecordEnd<A> {
         if next.site() != &self.site {
             return Some(1);
         }
-        if !self.objects.is_same(next.objects()) {
-            return Some(same_objects(&self.objects, next.objects()) as u64 + 2);
-        }
-        if !self.groups.is_same(next.groups()) {
-            let members = same_members(&self.groups, next.groups());
-            return Some(next.objects().len() as u64 + members + 2);
-        }
-        None
+        first_other_row(&self.objects, &self.groups, next)
     }
+}
+
+// promise: a record whose objects or groups are not these tells the first row that differs
+/// The row of a record, counted from 1, at which its objects, their initial values or its groups first differ from these; none where
+/// they do not.
+pub fn first_other_row<A: Allocator + Copy>(
+    objects: &ObjectTable<A>,
+    groups: &Groups<A>,
+    next: &Record<A>,
+) -> Option<u64>
+    ensures none { IfNone result ((next.now.objects ≡ objects.now) × (next.now.groups ≡ groups.now)) }
+    ensures some { IfSome result (λ row. TablesDifferAtRow objects.now groups.now next.now row) }
+{
+    if !objects.is_same(next.objects()) {
+        return Some(same_objects(objects, next.objects()) as u64 + 2);
+    }
+    if !groups.is_same(next.groups()) {
+        let members = same_members(groups, next.groups());
+        return Some(next.objects().len() as u64 + members + 2);
+    }
+    None
 }
 
 /// How many objects two tables that differ begin with alike.

@@ -1,10 +1,13 @@
 use ordup_audit::Reason;
 
-/// Why a record does not go on a series that shows that its rounds are the fewest.
+/// Why a record does not go with those before it: on a series, or with the records of other sites.
 #[derive(Clone, Copy, Debug, PartialEq, Eq)]
 pub enum SeriesReason {
     /// The site, the objects, their initial values, the groups or their members are not those that the record before ended with.
     NotNext,
+    /// The objects, their initial values, the groups or their members are not those of the records of other sites before it; or none of
+    /// its updates and theirs are the first of the others. A series has no such reason.
+    NotSame,
     /// The record alone is not valid.
     OfRecord(Reason),
 }
@@ -20,16 +23,17 @@ impl SeriesReason {
     {
         match self {
             SeriesReason::NotNext => "NotNext",
+            SeriesReason::NotSame => "NotSame",
             SeriesReason::OfRecord(reason) => reason.name(),
         }
     }
 }
 
-/// What the audit of a series answers.
+/// What the audit of a series, or of the records of several sites, answers.
 #[derive(Clone, Copy, Debug, PartialEq, Eq)]
 pub enum SeriesVerdict {
-    /// All records are valid and each goes on from the one before, and no schedule of the whole that keeps the limits has fewer rounds
-    /// than this.
+    /// All records are valid and go together, and have so many rounds. No schedule that keeps the limits has fewer: of a series none of
+    /// the whole, and of several sites none of each.
     Fewest(u64),
     /// There is a reason against a record.
     No {

@@ -1,10 +1,11 @@
--- What the jobs that judge a series of records read and print, and the verdict as a line.
+-- What the jobs that judge a series of records, or those of several sites, read and print, and the verdict as a line.
 use Rattle.std.specs.Prelude.{◌≡◌, ℕ, List, ◌++◌, codes, Option, IfSome, Ok, Err}
 use Rattle.std.specs.Fmt.{decimal}
 use Rattle.ordup_series.specs.Reasons.{series_reason_name}
 use Rattle.ordup_series.specs.declared.verdict.SeriesVerdict.{SeriesVerdict}
 use Rattle.ordup_series.specs.declared.verdict.SeriesVerdict.TheVariants.{Fewest, No}
 use Rattle.ordup_check.specs.SeriesVerdicts.{IsMalformedSeries, JudgesText}
+use Rattle.ordup_check.specs.SitesVerdicts.{IsMalformedSites, JudgesSites}
 use Rattle.ordup_faults.specs.Faults.{Outcome}
 use Rattle.ordup_faults.specs.Printing.{PrintsIfMemory}
 use Rattle.ordup_faults.specs.declared.fault.Fault.TheVariants as fault
@@ -24,14 +25,23 @@ series_verdict_status (No place row why) = 1
 abbrev pub PrintsSeriesVerdict : SeriesVerdict → Option (List ℕ) → Option (List ℕ) → Outcome → Type 0
 PrintsSeriesVerdict verdict = PrintsIfMemory (series_verdict_status verdict) (series_verdict_text verdict)
 
--- The records of these bytes were judged, and the verdict was printed. Nothing was written where a record could not be read.
+-- The records of these bytes were judged so, and the verdict was printed. Nothing was written where a record could not be read.
+abbrev pub ChecksRecords : (List ℕ → SeriesVerdict → Type 0) → (List ℕ → ℕ → ℕ → Type 0) → Option (List ℕ) → Option (List ℕ)
+    → Option (List ℕ) → Outcome → Type 0
+ChecksRecords Judges IsMalformed had old new (Ok status) =
+    (verdict : SeriesVerdict) × IfSome had (λ text. Judges text verdict) × PrintsSeriesVerdict verdict old new (Ok status)
+ChecksRecords Judges IsMalformed had old new (Err fault.Write) =
+    (verdict : SeriesVerdict) × IfSome had (λ text. Judges text verdict) × PrintsSeriesVerdict verdict old new (Err fault.Write)
+ChecksRecords Judges IsMalformed had old new (Err (fault.MalformedRecord place row)) =
+    IfSome had (λ text. IsMalformed text place row) × (new ≡ old)
+ChecksRecords Judges IsMalformed had old new (Err fault.Read) = new ≡ old
+ChecksRecords Judges IsMalformed had old new (Err fault.NoMemory) = new ≡ old
+ChecksRecords Judges IsMalformed had old new (Err e) = ⊥
+
+-- those of a series
 abbrev pub ChecksSeries : Option (List ℕ) → Option (List ℕ) → Option (List ℕ) → Outcome → Type 0
-ChecksSeries had old new (Ok status) =
-    (verdict : SeriesVerdict) × IfSome had (λ text. JudgesText text verdict) × PrintsSeriesVerdict verdict old new (Ok status)
-ChecksSeries had old new (Err fault.Write) =
-    (verdict : SeriesVerdict) × IfSome had (λ text. JudgesText text verdict) × PrintsSeriesVerdict verdict old new (Err fault.Write)
-ChecksSeries had old new (Err (fault.MalformedRecord place row)) =
-    IfSome had (λ text. IsMalformedSeries text place row) × (new ≡ old)
-ChecksSeries had old new (Err fault.Read) = new ≡ old
-ChecksSeries had old new (Err fault.NoMemory) = new ≡ old
-ChecksSeries had old new (Err e) = ⊥
+ChecksSeries = ChecksRecords JudgesText IsMalformedSeries
+
+-- those of several sites
+abbrev pub ChecksSites : Option (List ℕ) → Option (List ℕ) → Option (List ℕ) → Outcome → Type 0
+ChecksSites = ChecksRecords JudgesSites IsMalformedSites

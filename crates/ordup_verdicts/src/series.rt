@@ -1,9 +1,9 @@
-//! The job `check --series`, and the line of the verdict on a series.
+//! The jobs `check --series` and `check --sites`, and the line of their verdicts.
 ghost use Rattle.std.specs.Prelude.{◌≡◌, IfOk, string_bytes};
-ghost use Rattle.ordup_verdicts.specs.Series.{ChecksSeries, PrintsSeriesVerdict, series_verdict_status, series_verdict_text};
+ghost use Rattle.ordup_verdicts.specs.Series.{ChecksSeries, ChecksSites, PrintsSeriesVerdict, series_verdict_status, series_verdict_text};
 
 use crate::faults::fault_of_series_reading;
-use ordup_check::{SeriesVerdict, audit_series};
+use ordup_check::{SeriesVerdict, audit_series, audit_sites};
 use ordup_faults::{DONE, Fault, NOT_DONE, Outcome, flush};
 use ordup_text::send;
 use std::alloc::{AllocError, Global};
@@ -19,6 +19,18 @@ pub fn check_series<R: Read, W: Write>(alloc: Global, input: &mut R, output: &mu
     ensures { ChecksSeries (R.remaining input.old) (W.contents output.old) (W.contents output.new) result }
 {
     match audit_series(alloc, input) {
+        Ok(verdict) => print_series_verdict(alloc, verdict, output),
+        Err(fault) => Err(fault_of_series_reading(fault)),
+    }
+}
+
+// promise ChecksSites: `ordup check --sites` prints the verdict on its records, or tells the first bad row
+/// Audits the records of several sites of one store, one after another, and prints the verdict on all. It ends as [`check_series`]
+/// does.
+pub fn check_sites<R: Read, W: Write>(alloc: Global, input: &mut R, output: &mut W) -> Outcome
+    ensures { ChecksSites (R.remaining input.old) (W.contents output.old) (W.contents output.new) result }
+{
+    match audit_sites(alloc, input) {
         Ok(verdict) => print_series_verdict(alloc, verdict, output),
         Err(fault) => Err(fault_of_series_reading(fault)),
     }

@@ -1,8 +1,9 @@
 #!/usr/bin/env python3
-"""A second checker of records: audit.py [--series] < RECORD
+"""A second checker of records: audit.py [--series | --sites] < RECORD
 
-It reads the record of a site, or with --series the records of a site as `cat` puts them together, and prints what `ordup check` prints:
-`yes N` or `no ROW REASON`, or on standard error `malformed ROW`. There it also tells what a reason means here. The status is 0, 1 or 3.
+It reads the record of a site, or as `cat` puts them together with --series the records of a site and with --sites those of several sites of
+one store, and prints what `ordup check` prints: `yes N` or `no ROW REASON`, or on standard error `malformed ROW`. There it also tells what
+a reason means here. The status is 0, 1 or 3.
 
 This is not the proved checker. It was written from docs/FORMATS.md, shares no code with ordup, and needs Python 3.9 alone. So it can be
 read whole, and run where there is no ordup. A record that both accept would have to be wrong by a mistake that both have.
@@ -14,7 +15,7 @@ import argparse
 import re
 import sys
 from dataclasses import dataclass, field
-from itertools import accumulate
+from itertools import accumulate, zip_longest
 from typing import Iterator
 
 GREATEST_VALUE, GREATEST_AMOUNT = 10**9, 10**18
@@ -321,27 +322,47 @@ def must_be_next(before: Audit, record: Record) -> None:
             raise Refused(row, "NotNext", "the record does not begin with what the one before it ends with")
 
 
+def must_be_same(longest: Record, record: Record) -> None:
+    """Compares the objects, members and updates of a record with those of the one before it that has the most updates."""
+    wanted: list[tuple[object, ...]] = [*longest.objects.items(), *members_of(longest)]
+    found: list[tuple[object, ...]] = [*record.objects.items(), *members_of(record)]
+    for row, (one, other) in enumerate(zip([*wanted, ()], [*found, ()]), 2):
+        if one != other:
+            raise Refused(row, "NotSame", "the objects or groups are not those of the records before it")
+    for place, (these, those) in enumerate(zip(longest.updates, record.updates), 1):
+        for row, (mine, other) in enumerate(zip_longest(map(told, these), map(told, those)), those[0].row):
+            if mine != other:
+                raise Refused(row, "NotSame", f"the update {place} is not that of a record before it")
+
+
+def told(change: Change) -> tuple[bytes, bytes, bytes]:
+    return change.kind, change.target, change.source
+
+
 def members_of(record: Record) -> list[tuple[object, ...]]:
     return [("member", group, member) for group, members in record.groups.items() for member in members]
 
 
-def records_of(rows: list[Row], is_series: bool) -> list[list[Row]]:
-    starts = [index for index, row in enumerate(rows) if is_series and index and row[:1] == [b"ordup"]]
+def records_of(rows: list[Row], are_several: bool) -> list[list[Row]]:
+    starts = [index for index, row in enumerate(rows) if are_several and index and row[:1] == [b"ordup"]]
     return [rows[start:end] for start, end in zip([0, *starts], [*starts, len(rows)])]
 
 
-def check(given: bytes, is_series: bool = False) -> tuple[str, str]:
-    """The verdict on a text, and what it means where it is against the text."""
+def check(given: bytes, several: str = "") -> tuple[str, str]:
+    """The verdict on a text of a record, of a "series" or of "sites", and what it means where it is against the text."""
     rounds = 0
-    before = None
-    for index, rows in enumerate(records_of([*rows_of(given)], is_series), 1):
-        at = f"{index} " if is_series else ""
+    before, longest = None, None
+    for index, rows in enumerate(records_of([*rows_of(given)], bool(several)), 1):
+        at = f"{index} " if several else ""
         try:
             record = record_of(rows)
-            if before:
+            if before and several == "series":
                 must_be_next(before, record)
             before = Audit(record)
             rounds += before.judge()
+            if longest and several == "sites":
+                must_be_same(longest, record)
+            longest = max(longest or record, record, key=lambda it: it.decided)
         except Malformed as fault:
             return f"malformed {at}{fault.row}", "this row breaks a rule of docs/FORMATS.md, or is missing"
         except Refused as reason:
@@ -351,8 +372,10 @@ def check(given: bytes, is_series: bool = False) -> tuple[str, str]:
 
 def main() -> int:
     parser = argparse.ArgumentParser(description="A second checker of the records of a site. It is not the proved one, `ordup check`.")
-    parser.add_argument("--series", action="store_true", help="several records, each of which goes on from the one before")
-    verdict, meaning = check(sys.stdin.buffer.read(), parser.parse_args().series)
+    several = parser.add_mutually_exclusive_group()
+    for word, meaning in {"series": "several records, each of which goes on from the one before", "sites": "records of several sites of one store"}.items():
+        several.add_argument(f"--{word}", dest="several", action="store_const", const=word, default="", help=meaning)
+    verdict, meaning = check(sys.stdin.buffer.read(), parser.parse_args().several)
     print(verdict, file=sys.stderr if verdict.startswith("malformed") else sys.stdout)
     if meaning:
         print(meaning, file=sys.stderr)

@@ -8,7 +8,7 @@ use Rattle.ordup_runs.specs.Answers.{Answers}
 use Rattle.ordup_runs.specs.Records.{Records}
 use Rattle.ordup_verdicts.specs.Verdicts.{Checks}
 use Rattle.ordup_verdicts.specs.Lags.{Lags}
-use Rattle.ordup_verdicts.specs.Series.{ChecksSeries}
+use Rattle.ordup_verdicts.specs.Series.{ChecksSeries, ChecksSites}
 use Rattle.ordup_verdicts.specs.SeriesLags.{LagsOfSeries}
 use Rattle.ordup_next.specs.Successors.{DeclaresSuccessor}
 use Rattle.ordup_next.specs.Ends.{DeclaresEnd}
@@ -20,6 +20,7 @@ Does job.Run s outcome = Answers s outcome
 Does (job.Record site) s outcome = Records (string_bytes site) s outcome
 Does job.Check s outcome = Checks s.had s.old s.new outcome
 Does job.CheckSeries s outcome = ChecksSeries s.had s.old s.new outcome
+Does job.CheckSites s outcome = ChecksSites s.had s.old s.new outcome
 Does job.LagSeries s outcome = LagsOfSeries s.had s.old s.new outcome
 Does job.Lag s outcome = Lags s.had s.old s.new outcome
 Does job.Next s outcome = DeclaresSuccessor s outcome

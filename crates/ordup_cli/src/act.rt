@@ -20,6 +20,7 @@ use std::thread::Threads;
 // promise Checks: as check_record
 // promise Lags: as print_lag
 // promise ChecksSeries: as check_series
+// promise ChecksSites: as check_sites
 // promise LagsOfSeries: as print_lag_of_series
 // promise DeclaresSuccessor: as print_next
 // promise DeclaresEnd: as print_next_of_record

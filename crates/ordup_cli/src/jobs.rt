@@ -7,7 +7,7 @@ use ordup_command_line::Job;
 use ordup_faults::Outcome;
 use ordup_next::{print_next, print_next_of_record};
 use ordup_runs::{print_answers, print_record};
-use ordup_verdicts::{check_record, check_series, print_lag, print_lag_of_series};
+use ordup_verdicts::{check_record, check_series, check_sites, print_lag, print_lag_of_series};
 use std::alloc::Global;
 use std::io::{Read, Write};
 use std::sync::Wait;
@@ -33,6 +33,7 @@ pub(crate) fn do_job<T: Threads + Wait + Sync, R: Read, W: Write>(
         Job::Record { site } => print_record(alloc, site.as_bytes(), input, output),
         Job::Check => check_record(alloc, input, output),
         Job::CheckSeries => check_series(alloc, input, output),
+        Job::CheckSites => check_sites(alloc, input, output),
         Job::Lag => print_lag(alloc, input, output),
         Job::LagSeries => print_lag_of_series(alloc, input, output),
         Job::Next => print_next(alloc, input, output),

@@ -16,6 +16,8 @@ pub enum Job {
     Check,
     /// Checks the records of a site, one after another.
     CheckSeries,
+    /// Checks the records of several sites of one store, one after another.
+    CheckSites,
     /// Prints the lag of a site, as its record tells it.
     Lag,
     /// Prints the lag of a site, as its records tell it, one after another.
@@ -49,7 +51,10 @@ fn job_in(alloc: Global, matches: &ArgMatches<'_>) -> Result<Option<Job>, AllocE
     match name {
         "run" => Ok(Some(Job::Run)),
         "record" => record_of(alloc, words.get_str("SITE")),
-        "check" => Ok(Some(check_of(words.get_flag("series")))),
+        "check" => Ok(Some(check_of(
+            words.get_flag("series"),
+            words.get_flag("sites"),
+        ))),
         "lag" => Ok(Some(lag_of(words.get_flag("series")))),
         "next" => Ok(Some(next_of(words.get_flag("record")))),
         "threads" => Ok(callers_of(words.get_one::<u8>("CLIENTS"))),
@@ -66,10 +71,12 @@ fn record_of(alloc: Global, site: Option<&str>) -> Result<Option<Job>, AllocErro
     Ok(Some(Job::Record { site }))
 }
 
-/// The job of checking a series of records, or one.
-fn check_of(is_series: bool) -> Job {
+/// The job of checking a series of records, those of several sites, or one.
+fn check_of(is_series: bool, are_sites: bool) -> Job {
     if is_series {
         Job::CheckSeries
+    } else if are_sites {
+        Job::CheckSites
     } else {
         Job::Check
     }
@@ -157,13 +164,43 @@ fn run<'a>(alloc: Global) -> Command<'a> {
 
 /// The words of `ordup check`.
 fn check<'a>(alloc: Global) -> Result<Command<'a>, AllocError> {
-    words_of(
+    let check = words_of(
         alloc,
         "check",
         "Checks whether a record shows that the site's forced rounds are the fewest",
         CHECK_HELP,
     )
-    .arg(series(alloc))
+    .arg(series(alloc));
+    match sites(alloc) {
+        Ok(sites) => with_arg(check, sites),
+        Err(error) => {
+            drop(check);
+            Err(error)
+        }
+    }
+}
+
+/// The words of a job with one word more, where they could be made.
+fn with_arg<'a>(
+    job: Result<Command<'a>, AllocError>,
+    word: Arg<'a>,
+) -> Result<Command<'a>, AllocError> {
+    match job {
+        Ok(job) => job.arg(word),
+        Err(error) => {
+            drop(word);
+            Err(error)
+        }
+    }
+}
+
+/// The word that asks for the records of several sites.
+fn sites<'a>(alloc: Global) -> Result<Arg<'a>, AllocError> {
+    Arg::new(alloc, "sites")
+        .long("sites")
+        .action(ArgAction::SetTrue)
+        .help("Reads the records of several sites of one store, one after another")
+        .conflicts_with("series")
 }
 
 /// The words of `ordup lag`.
@@ -337,9 +374,13 @@ those that go on from it. It prints `yes N` for the N rounds of all, or the firs
 reason and its record: `no RECORD ROW REASON`. NotNext says that a record does not
 begin with what the one before ended with.
 
+With --sites it reads the records of several sites of one store, one after another,
+and answers in the same way. NotSame says that the objects, the groups or the
+updates of a record are not those of the records before it. A record may end sooner.
+
 Exit statuses: 0 yes, 1 no; 3 with `malformed ROW` (the first row that breaks a
-rule of the format; of a series `malformed RECORD ROW`), `read fault` (also for
-input that is too long) or `write fault` on standard error; 4 with `no memory`;
+rule of the format; of several records `malformed RECORD ROW`), `read fault` (also
+for input that is too long) or `write fault` on standard error; 4 with `no memory`;
 2 for wrong words.
 The rows, and each reason: docs/FORMATS.md";
 

@@ -11,11 +11,7 @@ use std::alloc::Allocator;
 
 // promise: as Record::from_parts
 /// The row of a change: the one after the first `index` changes of the update after the first `updates`.
-pub fn change_row<A: Allocator + Copy>(
-    audited: &Record<A>,
-    updates: u64,
-    index: usize,
-) -> u64
+pub fn change_row<A: Allocator + Copy>(audited: &Record<A>, updates: u64, index: usize) -> u64
     requires updates { updates ≤ length audited.now.sets }
     requires index { index < most_changes }
     ensures { result ≡ change_row audited.now updates index }

@@ -45,33 +45,33 @@ module _ (Valid : List RecordState → Type 0) (Judges : List ℕ → SeriesVerd
     (malformed_after : (text : List ℕ) (place row : ℕ) → Malformed text place row
     → (done : List RecordState) × Within MOST_SERIES_BYTES (λ t. IsMalformedAfter t done row) text)
     (text : List ℕ) (records : List RecordState) (few : length text ≤ MOST_SERIES_BYTES) (told : TextTellsSeries (strip_bom text) records)
-    where
-  verdict_is : (v : SeriesVerdict) → Valid records → Judges text v → v ≡ Fewest (rounds_of records)
-  verdict_is (Fewest n) valid judged =
-      let (others, also, is) = fewest text n judged in
-      ap Fewest (is ∙ ap rounds_of (sym (texts_tell_one_series (strip_bom text) records others told also)))
-  verdict_is (No place row why) valid judged =
-      let (done, r, begins, never_valid) = against text place row why judged in
-      let first : TextBeginsSeries (strip_bom text) (done ++ r ∷ []) =
-      short_is MOST_SERIES_BYTES text (λ t. TextBeginsSeries t (done ++ r ∷ [])) few begins in
-      let (rest, all) = begins_with_first (strip_bom text) records (done ++ r ∷ []) told first in
-      absurd (never_valid rest (subst Valid (all ∙ append_assoc done (r ∷ []) rest) valid))
+  where
+    verdict_is : (v : SeriesVerdict) → Valid records → Judges text v → v ≡ Fewest (rounds_of records)
+    verdict_is (Fewest n) valid judged =
+        let (others, also, is) = fewest text n judged in
+        ap Fewest (is ∙ ap rounds_of (sym (texts_tell_one_series (strip_bom text) records others told also)))
+    verdict_is (No place row why) valid judged =
+        let (done, r, begins, never_valid) = against text place row why judged in
+        let first : TextBeginsSeries (strip_bom text) (done ++ r ∷ []) =
+        short_is MOST_SERIES_BYTES text (λ t. TextBeginsSeries t (done ++ r ∷ [])) few begins in
+        let (rest, all) = begins_with_first (strip_bom text) records (done ++ r ∷ []) told first in
+        absurd (never_valid rest (subst Valid (all ∙ append_assoc done (r ∷ []) rest) valid))
 
-  not_malformed : (place row : ℕ) → records ≢ [] → Malformed text place row → ⊥
-  not_malformed place row some is =
-      let (done, after) = malformed_after text place row is in
-      texts_of_a_series_are_not_malformed (strip_bom text) records done row some told
-      (short_is MOST_SERIES_BYTES text (λ t. IsMalformedAfter t done row) few after)
+    not_malformed : (place row : ℕ) → records ≢ [] → Malformed text place row → ⊥
+    not_malformed place row some is =
+        let (done, after) = malformed_after text place row is in
+        texts_of_a_series_are_not_malformed (strip_bom text) records done row some told
+        (short_is MOST_SERIES_BYTES text (λ t. IsMalformedAfter t done row) few after)
 
-  answered : (o : Option (List ℕ)) (result : Result SeriesVerdict SeriesReadFault) → o ≡ Some text → records ≢ []
-      → Valid records → IfOk result (λ v. IfSome o (λ text. Judges text v))
-      → IfErr result (λ e. (place row : ℕ) → e ≡ fault.Malformed place row → IfSome o (λ text. Malformed text place row))
-      → AnswersSeries result records
-  answered o (Ok v) is some valid judged malformed = verdict_is v valid (rw is at judged)
-  answered o (Err fault.Read) is some valid judged malformed = tt
-  answered o (Err fault.NoMemory) is some valid judged malformed = tt
-  answered o (Err (fault.Malformed place row)) is some valid judged malformed =
-      not_malformed place row some (rw is at (malformed place row refl))
+    answered : (o : Option (List ℕ)) (result : Result SeriesVerdict SeriesReadFault) → o ≡ Some text → records ≢ []
+        → Valid records → IfOk result (λ v. IfSome o (λ text. Judges text v))
+        → IfErr result (λ e. (place row : ℕ) → e ≡ fault.Malformed place row → IfSome o (λ text. Malformed text place row))
+        → AnswersSeries result records
+    answered o (Ok v) is some valid judged malformed = verdict_is v valid (rw is at judged)
+    answered o (Err fault.Read) is some valid judged malformed = tt
+    answered o (Err fault.NoMemory) is some valid judged malformed = tt
+    answered o (Err (fault.Malformed place row)) is some valid judged malformed =
+        not_malformed place row some (rw is at (malformed place row refl))
 
 -- ---- a series
 

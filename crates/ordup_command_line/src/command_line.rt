@@ -51,10 +51,7 @@ fn job_in(alloc: Global, matches: &ArgMatches<'_>) -> Result<Option<Job>, AllocE
     match name {
         "run" => Ok(Some(Job::Run)),
         "record" => record_of(alloc, words.get_str("SITE")),
-        "check" => Ok(Some(check_of(
-            words.get_flag("series"),
-            words.get_flag("sites"),
-        ))),
+        "check" => Ok(Some(check_of(words.get_flag("series"), words.get_flag("sites")))),
         "lag" => Ok(Some(lag_of(words.get_flag("series")))),
         "next" => Ok(Some(next_of(words.get_flag("record")))),
         "threads" => Ok(callers_of(words.get_one::<u8>("CLIENTS"))),

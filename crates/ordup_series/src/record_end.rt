@@ -70,7 +70,7 @@ impl<A: Allocator + Copy> RecordEnd<A> {
     }
 }
 
-// promise: a record whose objects or groups are not these tells the first row that differs
+// promise none some: a record whose objects or groups are not these tells the first row that differs
 /// The row of a record, counted from 1, at which its objects, their initial values or its groups first differ from these; none where
 /// they do not.
 pub fn first_other_row<A: Allocator + Copy>(

@@ -1,13 +1,15 @@
 -- Records that are the same as far as each two go, and one record more.
 use Rattle.std.proofs.Common.{◌≡◌, ◌∙◌, ◌⊎◌, ℕ, ◌+◌, ◌<◌, ◌≤◌, Bool, true, false, List, [], ◌∷◌, ◌++◌, length, not, take, arith, ap, sym, refl, min, subst, inl, inr, Option, Some, None, get_or}
-use Rattle.std.specs.Prelude.{All, Contains, IfSome, if◌then◌else◌, nat_lt}
+use Rattle.std.specs.Prelude.{All, Contains, IfSome, if◌then◌else◌, nat_lt, fold}
 use Rattle.std.proofs.lemmas.Bool.{cases_lt, ltb-false, ltb-true}
 use Rattle.std.proofs.lemmas.Slice.Eq.{slice_eq-Decides}
 use Rattle.std.specs.Bool.{Decides}
 use Rattle.std.specs.Cmp.Lexicographic.{pointwise}
 use Rattle.std.proofs.lemmas.List.{get_or-take, length-take, take-take, take_all}
 use Rattle.std.proofs.lemmas.List.Elements.{All-contains, All-nil, All-push, All-weaker, Contains-append_left, Contains-append_right, Contains-push, Contains-push_cases}
-use Rattle.ordup_objects.specs.Tables.{Objects}
+use Rattle.ordup_objects.specs.declared.change.Change.{Change}
+use Rattle.ordup_objects.specs.States.{State, after}
+use Rattle.ordup_objects.specs.Tables.{Objects, initial_state}
 use Rattle.ordup_log.specs.Groups.{GroupList}
 use Rattle.ordup_audit.specs.Records.{RecordState}
 use Rattle.ordup_audit.specs.Validity.{IsValid}
@@ -16,7 +18,7 @@ use Rattle.ordup_series.specs.declared.verdict.SeriesReason.TheVariants.{NotNext
 use Rattle.ordup_series.specs.declared.verdict.SeriesVerdict.{SeriesVerdict}
 use Rattle.ordup_series.specs.declared.verdict.SeriesVerdict.TheVariants.{Fewest, No}
 use Rattle.ordup_sites.specs.Audits.{IsLongest, IsSitesVerdict, is_longer}
-use Rattle.ordup_sites.specs.Sites.{AreEachTwoSame, AreSame, AreValidSites, DiffersAtFirst, DiffersFrom, IsFrontOf, update_at}
+use Rattle.ordup_sites.specs.Sites.{AreEachTwoSame, AreSame, AreValidSites, DiffersAtFirst, DiffersFrom, IsFrontOf, SameRecordsHaveTheSameValues, update_at}
 
 -- ---- lists that are compared entry by entry
 
@@ -68,6 +70,10 @@ module _ {X : Type 0} where
     | inl lt ↦ inl (fronts xs zs ys front shorter (omega (arith, lt)))
     | inr ge ↦ inr (fronts zs xs ys shorter front ge)
   ]
+
+  takes-same : (xs ys : List X) (k : ℕ) → k ≤ length xs → k ≤ length ys → IsFrontOf xs ys ⊎ IsFrontOf ys xs → take k xs ≡ take k ys
+  takes-same xs ys k in_xs in_ys (inl is) = ap (take k) (sym is) ∙ take-take k (length xs) ys in_xs
+  takes-same xs ys k in_xs in_ys (inr is) = sym (ap (take k) (sym is) ∙ take-take k (length ys) xs in_ys)
 
   other-way : (xs ys : List X) → IsFrontOf xs ys ⊎ IsFrontOf ys xs → IsFrontOf ys xs ⊎ IsFrontOf xs ys
   other-way xs ys (inl is) = inr is
@@ -131,6 +137,13 @@ differs-not_same q r row (inl (inr (objects, n, (k, j, differ, within, count), a
     differ.differ (ap (λ (g : GroupList). take (k + 1) g) (sym same.groups))
 differs-not_same q r row (inr (objects, groups, (i, j, in_q, in_r, front, differ, at))) same =
     differ.differ (ap (take (j + 1)) (entry-same q.sets r.sets i [] in_q in_r same.updates))
+
+pub same_records_have_the_same_values : SameRecordsHaveTheSameValues
+same_records_have_the_same_values q r k same in_q in_r =
+    let starts : initial_state q.objects ≡ initial_state r.objects = ap (λ (o : Objects). initial_state o) (sym same.objects) in
+    ap (λ (s : State). fold (λ v m. after m v) s (take k q.sets)) starts
+    ∙ ap (λ (l : List (List Change)). fold (λ v m. after m v) (initial_state r.objects) l)
+    (takes-same q.sets r.sets k in_q in_r same.updates)
 
 -- ---- one record more
 

@@ -1,7 +1,8 @@
 -- Records of several sites of one store: whether they have the same updates, and the row at which one differs.
-use Rattle.std.specs.Prelude.{◌≡◌, ◌⊎◌, ℕ, ◌<◌, All, Contains, List, [], length, take, slice_index_or}
+use Rattle.std.specs.Prelude.{◌≡◌, ◌⊎◌, ℕ, ◌<◌, ◌≤◌, All, Contains, List, [], length, take, slice_index_or}
 use Rattle.ordup_objects.specs.declared.change.Change.{Change}
-use Rattle.ordup_audit.specs.Records.{RecordState}
+use Rattle.ordup_objects.specs.Serial.{serial}
+use Rattle.ordup_audit.specs.Records.{RecordState, history_of}
 use Rattle.ordup_audit.specs.Rows.{change_row}
 use Rattle.ordup_audit.specs.Validity.{IsValid}
 use Rattle.ordup_audit.specs.Verdicts.{NoFewerRounds}
@@ -53,3 +54,10 @@ DiffersFrom q r row =
 pub record DiffersAtFirst (done : List RecordState) (r : RecordState) (row : ℕ) : Type 0 where
   pub one : (q : RecordState) × Contains done q × DiffersFrom q r row
   pub each : (q : RecordState) → Contains done q → AreSame q r ⊎ DiffersFrom q r row
+
+-- ---- a law
+
+-- records that are the same have the same values after each update that both have
+abbrev pub SameRecordsHaveTheSameValues : Type 0
+SameRecordsHaveTheSameValues =
+    (q r : RecordState) (k : ℕ) → AreSame q r → k ≤ length q.sets → k ≤ length r.sets → serial (history_of q) k ≡ serial (history_of r) k

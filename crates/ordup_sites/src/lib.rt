@@ -7,6 +7,8 @@
 
 mod audit;
 mod difference;
+mod laws;
 
 pub use audit::SitesAudit;
 pub use difference::first_difference;
+pub use laws::same_records_have_the_same_values;

@@ -1,3 +1,4 @@
 pub mod Outcomes
+mod SeriesOutcomes
 mod SeriesLagLemmas
 mod Examples

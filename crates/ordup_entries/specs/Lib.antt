@@ -1,0 +1,5 @@
+pub mod Sizes
+pub mod Words
+pub mod Fields
+pub mod Steps
+pub mod Lines

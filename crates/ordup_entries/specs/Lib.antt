@@ -1,5 +1,9 @@
 pub mod Sizes
 pub mod Words
 pub mod Fields
+pub mod Parts
 pub mod Steps
 pub mod Lines
+pub mod Orders
+pub mod Entries
+pub mod Reading

@@ -1,6 +1,6 @@
 -- How the line of a step is read.
 use Rattle.std.specs.Prelude.{ℕ, Bool, ◌&&◌, ◌==◌, ◌+◌, List, [], ◌∷◌, length, Option, Some, None}
-use Rattle.std.specs.Prelude.{option_map, option_and_then, codes, if◌then◌else◌, nat_le}
+use Rattle.std.specs.Prelude.{option_map, option_and_then, codes, if◌then◌else◌}
 use Rattle.std.specs.Str.{bytes_eq}
 use Rattle.ordup_objects.specs.Names.{is_name}
 use Rattle.ordup_grammar.specs.declared.declaration.ScopeWord.{ScopeWord}

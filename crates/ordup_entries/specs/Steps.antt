@@ -1,5 +1,5 @@
 -- The text of a step, without its line feed, and which steps are of the form.
-use Rattle.std.specs.Prelude.{ℕ, Bool, true, ◌&&◌, ◌==◌, ◌+◌, List, [], ◌∷◌, ◌++◌, codes, nat_le, if◌then◌else◌}
+use Rattle.std.specs.Prelude.{ℕ, Bool, true, ◌&&◌, ◌==◌, ◌+◌, List, [], ◌∷◌, ◌++◌, codes, if◌then◌else◌}
 use Rattle.std.specs.Fmt.{decimal}
 use Rattle.ordup_objects.specs.Names.{is_name}
 use Rattle.ordup_grammar.specs.declared.declaration.ScopeWord.{ScopeWord}
@@ -123,7 +123,7 @@ is_settings s =
     && (within 1 most_counted s.began.every
     && (within 1 most_counted s.began.remembers
     && (is_word most_word_bytes s.began.origin
-    && (nat_le s.seconds most_counted && nat_le s.began.seconds most_counted)))))))
+    && (within 0 most_counted s.seconds && within 0 most_counted s.began.seconds)))))))
 
 abbrev pub is_scope : ScopeWord → Bool
 is_scope (scope.Object x) = is_name x
@@ -139,16 +139,16 @@ is_step (Known client number digest epoch age answer) =
     && (within 1 most_number number
     && (is_word most_word_bytes digest
     && (within 1 most_number epoch
-    && (nat_le age most_number && is_answer answer))))
+    && (within 0 most_number age && is_answer answer))))
 is_step (Tell site count) = is_name site && within 1 most_counted count
 is_step (Ask client number changes) = is_client client && (within 1 most_number number && is_changes changes)
 is_step (Settle count) = within 1 most_counted count
 is_step (Wish s) = is_settings s
 is_step (Want line) = is_changes line
 is_step (Leave site) = is_name site
-is_step (Gone site count) = is_name site && nat_le count most_counted
+is_step (Gone site count) = is_name site && within 0 most_counted count
 is_step (Relimit site scope amount answer) =
-    is_name site && (is_scope scope && (nat_le amount most_amount && is_limit_answer answer))
+    is_name site && (is_scope scope && (within 0 most_amount amount && is_limit_answer answer))
 is_step (Elapsed seconds) = within 1 most_counted seconds
 is_step (Answered client number digest answer) =
     is_client client && (within 1 most_number number && (is_word most_word_bytes digest && is_answer answer))

@@ -111,7 +111,9 @@ tested_law is words = record {
     let c = cond_some (is a.0.0) a.0 (x, rest) a.2 in
     let word : a.0.0 ≡ x = ap (λ (w : List ℕ × List ℕ). w.0) c.1 in
     (word_at-takes bytes a.0 a.1 ∙ ap (λ (w : List ℕ × List ℕ). 32 ∷ (w.0 ++ w.1)) c.1, subst (λ w. is w ≡ true) word c.0);
-  again = λ x rest h s. rw (word_at-again x rest (words x h) s, h) refl;
+  again = λ x rest h s.
+    ap (option_and_then (λ (w : List ℕ × List ℕ). cond (is w.0) (Some w) None)) (word_at-again x rest (words x h) s)
+    ∙ ap (λ b. cond b (Some (x, rest)) None) h;
   stops = λ x rest. refl;
   inner = λ x h. inner-word x (words x h);
 }
@@ -164,7 +166,9 @@ number_law least most below = record {
     (word_at-takes bytes a.0 a.1 ∙ ap (λ w. 32 ∷ (w ++ a.0.1)) (t.0 ∙ ap decimal number) ∙ ap (λ r. 32 ∷ (decimal x ++ r)) left, subst (λ n. within least most n ≡ true) number t.1);
   again = λ x rest h s.
     let few = at_most least most x h in
-    rw (word_at-again (decimal x) rest (word-decimal x (omega (arith, few, below))) s, number_within-again least most x below h) refl;
+    ap (option_and_then (λ (w : List ℕ × List ℕ). option_map (λ n. (n, w.1)) (number_within least most w.0)))
+    (word_at-again (decimal x) rest (word-decimal x (omega (arith, few, below))) s)
+    ∙ ap (option_map (λ n. (n, rest))) (number_within-again least most x below h);
   stops = λ x rest. refl;
   inner = λ x h.
     let few = at_most least most x h in
@@ -224,6 +228,11 @@ module _ {X : Type 0} (at : List ℕ → Option (X × List ℕ)) (text : X → L
         list_all-append is_inner (text x.0) (behind_text x.1) ∙ and_from _ _ (F.inner x.0 parts.0) (E.inner x.1 parts.1);
     }
 
+pub behind-again : (word rest : List ℕ) → list_all is_word_byte word ≡ true → Stops rest → behind word (word_text word ++ rest) ≡ Some rest
+behind-again word rest known s =
+    ap (option_and_then (λ (w : List ℕ × List ℕ). cond (bytes_eq w.0 word) (Some w.1) None)) (word_at-again word rest known s)
+    ∙ ap (λ b. cond b (Some rest) None) ((bytes_decides word word).1 refl)
+
 module _ {Y : Type 0} (word : List ℕ) (known : list_all is_word_byte word ≡ true) (end : List ℕ → Option Y) (text : Y → List ℕ) (fits : Y → Bool) (E : IsEnd end text fits) where
   pub after_law : IsEnd (after word end) (λ y. word_text word ++ text y) fits
   after_law = record {
@@ -234,7 +243,7 @@ module _ {Y : Type 0} (word : List ℕ) (known : list_all is_word_byte word ≡ 
       let same : b.0.0 ≡ word = (bytes_decides b.0.0 word).0 c.0 in
       let g = E.takes a.0 y a.2 in
       (word_at-takes bytes b.0 b.1 ∙ ap (λ w. 32 ∷ (w ++ b.0.1)) same ∙ ap (λ r. 32 ∷ (word ++ r)) (c.1 ∙ g.0), g.1);
-    again = λ y h. rw (word_at-again word (text y) known (E.stops y), (bytes_decides word word).1 refl, E.again y h) refl;
+    again = λ y h. ap (option_and_then end) (behind-again word (text y) known (E.stops y)) ∙ E.again y h;
     stops = λ y. refl;
     inner = λ y h. list_all-append is_inner (word_text word) (text y) ∙ and_from _ _ (inner-word word known) (E.inner y h);
   }

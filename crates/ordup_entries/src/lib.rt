@@ -18,7 +18,6 @@ pub use answer::{Answer, LimitAnswer};
 pub use entry::{Entry, Header};
 pub use error::ReadError;
 pub use order::Part;
-pub use reading::read_entry;
 pub use settings::{Began, Settings};
 pub use step::Step;
 pub use text::Text;

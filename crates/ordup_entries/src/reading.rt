@@ -89,13 +89,10 @@ fn read_steps<'a, A: Allocator + Copy>(
     Ok(steps)
 }
 
-/// The entry that a text is, all of its bytes.
-pub fn read_entry<'a, A: Allocator + Copy>(
-    alloc: A,
-    text: &'a [u8],
-) -> Result<Entry<'a, A>, ReadError>
-    // What is wrong with another text, and in which line.
-    ensures exact { Gives result (entry_of text.now) }
+/// The entry that a text is, or what is wrong with it.
+#[tactic(auto, unfolding(crate::specs::Reading::entry_of))]
+fn read<'a, A: Allocator + Copy>(alloc: A, text: &'a [u8]) -> Result<Entry<'a, A>, ReadError>
+    ensures { Gives result (entry_of text.now) }
 {
     if text.len() > MOST_ENTRY_BYTES {
         return Err(ReadError::TooLong);

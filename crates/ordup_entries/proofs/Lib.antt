@@ -1,3 +1,5 @@
 pub mod FieldLaws
 pub mod LineLaws
+pub mod StepLaws
 pub mod ReadingLemmas
+pub mod EntryLaws

@@ -1,6 +1,6 @@
 -- The steps of an entry, line by line.
 use Rattle.std.proofs.Common.{◌≡◌, ◌∙◌, ap, sym, refl, inl, inr, ℕ, zero, suc, ◌+◌, ◌-◌, ◌<◌, ◌≤◌, Bool, true, false, ◌==◌}
-use Rattle.std.proofs.Common.{List, [], ◌∷◌, ◌++◌, length, take, drop, Option, Some, None, Result, Ok, Err, arith, cond, add-one, append_assoc, slice_get}
+use Rattle.std.proofs.Common.{List, [], ◌∷◌, ◌++◌, length, take, drop, Option, Some, None, Result, Ok, Err, arith, cond, nat_lt, add-one, append_assoc, slice_get}
 use Rattle.std.specs.List.{flat_map, slice_split, onto_first}
 use Rattle.std.proofs.lemmas.Bool.Decides.{nat_tests}
 use Rattle.std.proofs.lemmas.List.{append-nil}
@@ -10,7 +10,7 @@ use Rattle.ordup_entries.specs.Steps.{step_text}
 use Rattle.ordup_entries.specs.Lines.{step_of}
 use Rattle.ordup_entries.specs.Orders.{may_be_next, part_behind, counted}
 use Rattle.ordup_entries.specs.Entries.{line_of}
-use Rattle.ordup_entries.specs.Reading.{next_by, with_step, with_header, header_of, option_cases, steps_of, entry_by, told, Fails, FailsSteps}
+use Rattle.ordup_entries.specs.Reading.{next_by, with_step, with_header, header_of, option_cases, steps_of, entry_by, entry_of, told, Fails, FailsSteps}
 use Rattle.ordup_entries.specs.declared.entry.Header.{Header}
 use Rattle.ordup_entries.specs.declared.error.ReadError.{ReadError}
 use Rattle.ordup_entries.specs.declared.error.ReadError.TheVariants as errors
@@ -98,3 +98,11 @@ pub fails_whole : (e : ReadError) (header : Header) (read : Result (List Step) �
 fails_whole errors.Memory header read h = tt
 fails_whole errors.TooLong header read h = absurd h
 fails_whole (errors.Line number) header read h = rw h refl
+
+pub fails : (text line rest : List ℕ) (header : Header) (e : ReadError) → nat_lt 2097152 (length text) ≡ false
+    → parts_of text ≡ line ∷ parts_of rest
+    → header_of line ≡ Some header
+    → FailsSteps e (steps_of 2 Start 1000000 (parts_of rest))
+    → Fails e (entry_of text)
+unfolding entry_of
+fails text line rest header e few is some h = rw (few, a_header text line rest header is some) (fails_whole e header _ h)

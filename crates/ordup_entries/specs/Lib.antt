@@ -7,3 +7,4 @@ pub mod Lines
 pub mod Orders
 pub mod Entries
 pub mod Reading
+pub mod Laws

@@ -103,6 +103,26 @@ fn read<'a, A: Allocator + Copy>(alloc: A, text: &'a [u8]) -> Result<Entry<'a, A
     let Some(header) = Header::read(&line) else {
         return Err(ReadError::Line(1));
     };
-    let steps = read_steps(alloc, rest)?;
-    Ok(Entry::new(header, steps))
+    match read_steps(alloc, rest) {
+        Ok(steps) => Ok(Entry::new(header, steps)),
+        Err(error) => Err(error),
+    }
+}
+
+// promise found only exact: a text is read as an entry where it is the text of one of the form, as that one alone; else its first wrong line is told
+/// The entry that a text is. It promises, clause by clause:
+///
+/// - `found`: the entry is of the form, and the text is its text, each byte of it.
+/// - `only`: the text of an entry of the form is read as that entry, unless memory is refused.
+/// - `exact`: of any other text the number of the first line is told that is not of the form, or may not stand where it stands. A text
+///   that is too long is told before any line is looked at.
+pub fn read_entry<'a, A: Allocator + Copy>(
+    alloc: A,
+    text: &'a [u8],
+) -> Result<Entry<'a, A>, ReadError>
+    ensures found { IfOk result (λ e. (is_entry e ≡ true) × (text.now ≡ text_of e)) }
+    ensures only { (e : ScriptEntry) → is_entry e ≡ true → text.now ≡ text_of e → Gives result (Ok e) }
+    ensures exact { Gives result (entry_of text.now) }
+{
+    read(alloc, text)
 }

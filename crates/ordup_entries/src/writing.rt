@@ -1,5 +1,6 @@
 //! An entry, written.
 ghost use Rattle.std.specs.Prelude.{◌≡◌, ◌++◌, OnOk};
+ghost use Rattle.std.specs.List.{flat_map};
 ghost use Rattle.ordup_entries.specs.Steps.{word_text, number_text, refusal_text, answer_text, limit_answer_text, age_text, seconds_text, settings_text, scope_text, step_text};
 ghost use Rattle.ordup_entries.specs.Entries.{header_text, line_of, text_of};
 
@@ -265,6 +266,18 @@ fn push_line<A: Allocator + Copy>(out: &mut TextBuffer<A>, step: &Step<'_>) -> R
     out.push(b"\n")
 }
 
+fn push_steps<A: Allocator + Copy>(
+    out: &mut TextBuffer<A>,
+    steps: &[Step<'_>],
+) -> Result<(), AllocError>
+    ensures { OnOk result (out.new.text ≡ out.old.text ++ flat_map (λ s. line_of (step_text s)) steps.now) }
+{
+    for step in steps {
+        push_line(out, step)?;
+    }
+    Ok(())
+}
+
 /// Pushes the text of an entry.
 pub fn write_entry<A: Allocator + Copy, B: Allocator + Copy>(
     out: &mut TextBuffer<A>,
@@ -274,8 +287,5 @@ pub fn write_entry<A: Allocator + Copy, B: Allocator + Copy>(
 {
     push_header(out, entry.header())?;
     out.push(b"\n")?;
-    for step in entry.steps() {
-        push_line(out, step)?;
-    }
-    Ok(())
+    push_steps(out, entry.steps())
 }

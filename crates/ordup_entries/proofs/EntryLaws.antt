@@ -1,8 +1,8 @@
 -- What is read as an entry is the text of that entry, and the text of an entry of the form is read as it.
-use Rattle.std.proofs.Common.{◌≡◌, ◌∙◌, ap, sym, subst, refl, inl, inr, ℕ, zero, suc, ◌+◌, ◌-◌, ◌^◌, ◌<◌, ◌≤◌, Bool, true, false, ◌&&◌, ◌==◌, nat_lt}
-use Rattle.std.proofs.Common.{List, [], ◌∷◌, ◌++◌, length, map, Option, Some, None, Result, Ok, Err, option_map, arith, cond, append_assoc}
-use Rattle.std.specs.Prelude.{◌⊎◌, codes, not, nat_le, IfOk}
-use Rattle.std.specs.List.{All, AllByRecursion, list_all, flat_map, slice_split, join_with_byte}
+use Rattle.std.proofs.Common.{◌≡◌, ◌∙◌, ap, sym, subst, refl, inl, inr, ℕ, ◌+◌, ◌-◌, Bool, true, false, ◌&&◌, ◌==◌, nat_lt}
+use Rattle.std.proofs.Common.{List, [], ◌∷◌, ◌++◌, length, map, Option, Some, None, Result, Ok, Err, arith, cond, append_assoc}
+use Rattle.std.specs.Prelude.{codes, not, nat_le, IfOk}
+use Rattle.std.specs.List.{AllByRecursion, list_all, flat_map, join_with_byte}
 use Rattle.std.specs.Str.{bytes_eq}
 use Rattle.std.specs.Cmp.Lexicographic.{bytes_decides}
 use Rattle.std.proofs.lemmas.Bool.{and_parts, and_from, eqb-true}
@@ -11,8 +11,8 @@ use Rattle.std.proofs.lemmas.List.{nil_from_length}
 use Rattle.std.proofs.lemmas.List.Elements.{All-from_recursion}
 use Rattle.std.proofs.lemmas.List.Splits.{slice_split_at, join_with_byte-slice_split}
 use Rattle.std.proofs.lemmas.Option.{same_Some}
-use Rattle.ordup_entries.specs.Words.{within, is_word}
-use Rattle.ordup_entries.specs.Fields.{first_word, tested_at, number_at, last, both, after}
+use Rattle.ordup_entries.specs.Words.{is_word}
+use Rattle.ordup_entries.specs.Fields.{first_word, tested_at}
 use Rattle.ordup_entries.specs.Parts.{is_line_feed, parts_of}
 use Rattle.ordup_entries.specs.Steps.{word_text, number_text, step_text, is_step}
 use Rattle.ordup_entries.specs.Lines.{step_of}
@@ -121,7 +121,7 @@ one_again : (number : ℕ) (part : Part) (room : ℕ) (step : Step) (steps : Lis
     → may_be_next part room step ≡ true
     → steps_of (number + 1) (part_behind step) (room - counted step) rest ≡ Ok steps
     → option_cases (next_by part room (step_of (step_text step))) (Err number)
-        (λ step. with_step step (steps_of (number + 1) (part_behind step) (room - counted step) rest))
+    (λ step. with_step step (steps_of (number + 1) (part_behind step) (room - counted step) rest))
     ≡ Ok (step ∷ steps)
 one_again number part room step steps rest is may more =
     let f = λ (step : Step). with_step step (steps_of (number + 1) (part_behind step) (room - counted step) rest) in

@@ -1,15 +1,15 @@
 -- A field that is read is the field that was written, and what was written is read again.
-use Rattle.std.proofs.Common.{◌≡◌, ◌∙◌, ap, sym, subst, refl, inl, inr, ℕ, zero, suc, ◌+◌, ◌^◌, ◌<◌, ◌≤◌, Bool, true, false, ◌&&◌, ◌==◌, ℤ, pos, negsuc}
-use Rattle.std.proofs.Common.{List, [], ◌∷◌, ◌++◌, length, take, drop, Option, Some, None, option_map, arith, cond, if◌then◌else◌}
-use Rattle.std.specs.Prelude.{◌⊎◌, option_and_then, not, nat_le, unsigned_abs}
+use Rattle.std.proofs.Common.{◌≡◌, ◌∙◌, ap, sym, subst, refl, inl, inr, ℕ, ◌+◌, ◌^◌, ◌<◌, ◌≤◌, Bool, true, false, ◌&&◌, ◌==◌, ℤ, pos, negsuc}
+use Rattle.std.proofs.Common.{List, [], ◌∷◌, ◌++◌, length, Option, Some, None, option_map, arith, cond}
+use Rattle.std.specs.Prelude.{◌⊎◌, option_and_then, not, unsigned_abs}
 use Rattle.std.specs.Fmt.{decimal}
 use Rattle.std.specs.List.{list_all, position_or_len}
 use Rattle.std.specs.Str.{bytes_eq, all_ascii_digits}
 use Rattle.std.specs.Cmp.Lexicographic.{bytes_decides}
-use Rattle.std.proofs.lemmas.Bool.{and_parts, and_from, eqb-true, cases_Bool}
+use Rattle.std.proofs.lemmas.Bool.{and_parts, and_from, eqb-true}
 use Rattle.std.proofs.lemmas.Bool.Decides.{nat_tests}
 use Rattle.std.proofs.lemmas.Fmt.{digits_decimal}
-use Rattle.std.proofs.lemmas.List.{append-nil, nil_from_length, take_at, drop_at, take-append-drop, append_assoc}
+use Rattle.std.proofs.lemmas.List.{append-nil, nil_from_length, take_at, drop_at, take-append-drop}
 use Rattle.std.proofs.lemmas.List.Folds.{list_all-append}
 use Rattle.std.proofs.lemmas.Option.{cond_some, same_Some}
 use Rattle.ordup_grammar.specs.Numbers.{number_of, amount_of}
@@ -107,13 +107,13 @@ pub tested_law : (is : List ℕ → Bool) → ((word : List ℕ) → is word ≡
     → IsField (tested_at is) word_text is
 tested_law is words = record {
   takes = λ bytes x rest e.
-    let a = bind_some (λ w. cond (is w.0) (Some w) None) (word_at bytes) (x, rest) e in
-    let c = cond_some (is a.0.0) a.0 (x, rest) a.2 in
-    let word : a.0.0 ≡ x = ap (λ (w : List ℕ × List ℕ). w.0) c.1 in
-    (word_at-takes bytes a.0 a.1 ∙ ap (λ (w : List ℕ × List ℕ). 32 ∷ (w.0 ++ w.1)) c.1, subst (λ w. is w ≡ true) word c.0);
+      let a = bind_some (λ w. cond (is w.0) (Some w) None) (word_at bytes) (x, rest) e in
+      let c = cond_some (is a.0.0) a.0 (x, rest) a.2 in
+      let word : a.0.0 ≡ x = ap (λ (w : List ℕ × List ℕ). w.0) c.1 in
+      (word_at-takes bytes a.0 a.1 ∙ ap (λ (w : List ℕ × List ℕ). 32 ∷ (w.0 ++ w.1)) c.1, subst (λ w. is w ≡ true) word c.0);
   again = λ x rest h s.
-    ap (option_and_then (λ (w : List ℕ × List ℕ). cond (is w.0) (Some w) None)) (word_at-again x rest (words x h) s)
-    ∙ ap (λ b. cond b (Some (x, rest)) None) h;
+      ap (option_and_then (λ (w : List ℕ × List ℕ). cond (is w.0) (Some w) None)) (word_at-again x rest (words x h) s)
+      ∙ ap (λ b. cond b (Some (x, rest)) None) h;
   stops = λ x rest. refl;
   inner = λ x h. inner-word x (words x h);
 }
@@ -158,21 +158,21 @@ number_within-again least most n below h =
 pub number_law : (least most : ℕ) → most < 10 ^ 19 → IsField (number_at least most) number_text (within least most)
 number_law least most below = record {
   takes = λ bytes x rest e.
-    let a = bind_some (λ w. option_map (λ n. (n, w.1)) (number_within least most w.0)) (word_at bytes) (x, rest) e in
-    let b = map_some (λ n. (n, a.0.1)) (number_within least most a.0.0) (x, rest) a.2 in
-    let number : b.0 ≡ x = ap (λ (w : ℕ × List ℕ). w.0) b.2 in
-    let left : a.0.1 ≡ rest = ap (λ (w : ℕ × List ℕ). w.1) b.2 in
-    let t = number_within-takes least most a.0.0 b.0 (omega (arith, below)) b.1 in
-    (word_at-takes bytes a.0 a.1 ∙ ap (λ w. 32 ∷ (w ++ a.0.1)) (t.0 ∙ ap decimal number) ∙ ap (λ r. 32 ∷ (decimal x ++ r)) left, subst (λ n. within least most n ≡ true) number t.1);
+      let a = bind_some (λ w. option_map (λ n. (n, w.1)) (number_within least most w.0)) (word_at bytes) (x, rest) e in
+      let b = map_some (λ n. (n, a.0.1)) (number_within least most a.0.0) (x, rest) a.2 in
+      let number : b.0 ≡ x = ap (λ (w : ℕ × List ℕ). w.0) b.2 in
+      let left : a.0.1 ≡ rest = ap (λ (w : ℕ × List ℕ). w.1) b.2 in
+      let t = number_within-takes least most a.0.0 b.0 (omega (arith, below)) b.1 in
+      (word_at-takes bytes a.0 a.1 ∙ ap (λ w. 32 ∷ (w ++ a.0.1)) (t.0 ∙ ap decimal number) ∙ ap (λ r. 32 ∷ (decimal x ++ r)) left, subst (λ n. within least most n ≡ true) number t.1);
   again = λ x rest h s.
-    let few = at_most least most x h in
-    ap (option_and_then (λ (w : List ℕ × List ℕ). option_map (λ n. (n, w.1)) (number_within least most w.0)))
-    (word_at-again (decimal x) rest (word-decimal x (omega (arith, few, below))) s)
-    ∙ ap (option_map (λ n. (n, rest))) (number_within-again least most x below h);
+      let few = at_most least most x h in
+      ap (option_and_then (λ (w : List ℕ × List ℕ). option_map (λ n. (n, w.1)) (number_within least most w.0)))
+      (word_at-again (decimal x) rest (word-decimal x (omega (arith, few, below))) s)
+      ∙ ap (option_map (λ n. (n, rest))) (number_within-again least most x below h);
   stops = λ x rest. refl;
   inner = λ x h.
-    let few = at_most least most x h in
-    inner-word (decimal x) (word-decimal x (omega (arith, few, below)));
+      let few = at_most least most x h in
+      inner-word (decimal x) (word-decimal x (omega (arith, few, below)));
 }
 
 -- ---- the rest of a line
@@ -199,11 +199,11 @@ module _ {X : Type 0} (at : List ℕ → Option (X × List ℕ)) (text : X → L
   pub last_law : IsEnd (last at) text fits
   last_law = record {
     takes = λ bytes x e.
-      let a = bind_some (λ x. cond (length x.1 == 0) (Some x.0) None) (at bytes) x e in
-      let c = cond_some (length a.0.1 == 0) a.0.0 x a.2 in
-      let nothing : a.0.1 ≡ [] = nil_from_length a.0.1 (eqb-true (length a.0.1) 0 c.0) in
-      let f = F.takes bytes a.0.0 a.0.1 a.1 in
-      subst (λ y. (bytes ≡ text y) × (fits y ≡ true)) c.1 (f.0 ∙ ap (λ r. text a.0.0 ++ r) nothing ∙ append-nil (text a.0.0), f.1);
+        let a = bind_some (λ x. cond (length x.1 == 0) (Some x.0) None) (at bytes) x e in
+        let c = cond_some (length a.0.1 == 0) a.0.0 x a.2 in
+        let nothing : a.0.1 ≡ [] = nil_from_length a.0.1 (eqb-true (length a.0.1) 0 c.0) in
+        let f = F.takes bytes a.0.0 a.0.1 a.1 in
+        subst (λ y. (bytes ≡ text y) × (fits y ≡ true)) c.1 (f.0 ∙ ap (λ r. text a.0.0 ++ r) nothing ∙ append-nil (text a.0.0), f.1);
     again = λ x h. ap (last at) (sym (append-nil (text x))) ∙ rw (F.again x [] h tt) refl;
     stops = λ x. subst Stops (append-nil (text x)) (F.stops x []);
     inner = F.inner;
@@ -213,19 +213,19 @@ module _ {X : Type 0} (at : List ℕ → Option (X × List ℕ)) (text : X → L
     pub both_law : IsEnd (both at end) (λ x. text x.0 ++ behind_text x.1) (λ x. fits x.0 && behind_fits x.1)
     both_law = record {
       takes = λ bytes x e.
-        let a = bind_some (λ x. option_map (λ y. (x.0, y)) (end x.1)) (at bytes) x e in
-        let b = map_some (λ y. (a.0.0, y)) (end a.0.1) x a.2 in
-        let f = F.takes bytes a.0.0 a.0.1 a.1 in
-        let g = E.takes a.0.1 b.0 b.1 in
-        subst (λ (y : X × Y). (bytes ≡ text y.0 ++ behind_text y.1) × ((fits y.0 && behind_fits y.1) ≡ true)) b.2
-        (f.0 ∙ ap (λ r. text a.0.0 ++ r) g.0, and_from (fits a.0.0) (behind_fits b.0) f.1 g.1);
+          let a = bind_some (λ x. option_map (λ y. (x.0, y)) (end x.1)) (at bytes) x e in
+          let b = map_some (λ y. (a.0.0, y)) (end a.0.1) x a.2 in
+          let f = F.takes bytes a.0.0 a.0.1 a.1 in
+          let g = E.takes a.0.1 b.0 b.1 in
+          subst (λ (y : X × Y). (bytes ≡ text y.0 ++ behind_text y.1) × ((fits y.0 && behind_fits y.1) ≡ true)) b.2
+          (f.0 ∙ ap (λ r. text a.0.0 ++ r) g.0, and_from (fits a.0.0) (behind_fits b.0) f.1 g.1);
       again = λ x h.
-        let parts = and_parts (fits x.0) (behind_fits x.1) h in
-        rw (F.again x.0 (behind_text x.1) parts.0 (E.stops x.1), E.again x.1 parts.1) refl;
+          let parts = and_parts (fits x.0) (behind_fits x.1) h in
+          rw (F.again x.0 (behind_text x.1) parts.0 (E.stops x.1), E.again x.1 parts.1) refl;
       stops = λ x. F.stops x.0 (behind_text x.1);
       inner = λ x h.
-        let parts = and_parts (fits x.0) (behind_fits x.1) h in
-        list_all-append is_inner (text x.0) (behind_text x.1) ∙ and_from _ _ (F.inner x.0 parts.0) (E.inner x.1 parts.1);
+          let parts = and_parts (fits x.0) (behind_fits x.1) h in
+          list_all-append is_inner (text x.0) (behind_text x.1) ∙ and_from _ _ (F.inner x.0 parts.0) (E.inner x.1 parts.1);
     }
 
 pub behind-again : (word rest : List ℕ) → list_all is_word_byte word ≡ true → Stops rest → behind word (word_text word ++ rest) ≡ Some rest
@@ -237,12 +237,12 @@ module _ {Y : Type 0} (word : List ℕ) (known : list_all is_word_byte word ≡ 
   pub after_law : IsEnd (after word end) (λ y. word_text word ++ text y) fits
   after_law = record {
     takes = λ bytes y e.
-      let a = bind_some end (behind word bytes) y e in
-      let b = bind_some (λ w. cond (bytes_eq w.0 word) (Some w.1) None) (word_at bytes) a.0 a.1 in
-      let c = cond_some (bytes_eq b.0.0 word) b.0.1 a.0 b.2 in
-      let same : b.0.0 ≡ word = (bytes_decides b.0.0 word).0 c.0 in
-      let g = E.takes a.0 y a.2 in
-      (word_at-takes bytes b.0 b.1 ∙ ap (λ w. 32 ∷ (w ++ b.0.1)) same ∙ ap (λ r. 32 ∷ (word ++ r)) (c.1 ∙ g.0), g.1);
+        let a = bind_some end (behind word bytes) y e in
+        let b = bind_some (λ w. cond (bytes_eq w.0 word) (Some w.1) None) (word_at bytes) a.0 a.1 in
+        let c = cond_some (bytes_eq b.0.0 word) b.0.1 a.0 b.2 in
+        let same : b.0.0 ≡ word = (bytes_decides b.0.0 word).0 c.0 in
+        let g = E.takes a.0 y a.2 in
+        (word_at-takes bytes b.0 b.1 ∙ ap (λ w. 32 ∷ (w ++ b.0.1)) same ∙ ap (λ r. 32 ∷ (word ++ r)) (c.1 ∙ g.0), g.1);
     again = λ y h. ap (option_and_then end) (behind-again word (text y) known (E.stops y)) ∙ E.again y h;
     stops = λ y. refl;
     inner = λ y h. list_all-append is_inner (word_text word) (text y) ∙ and_from _ _ (inner-word word known) (E.inner y h);

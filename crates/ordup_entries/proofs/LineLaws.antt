@@ -1,48 +1,30 @@
 -- A line that is read as a step is the text of that step, and the text of a step of the form is read as it.
-use Rattle.std.proofs.Common.{◌≡◌, ◌∙◌, ap, sym, subst, refl, inl, inr, ℕ, zero, suc, ◌+◌, ◌^◌, ◌<◌, ◌≤◌, Bool, true, false, ◌&&◌, ◌==◌}
+use Rattle.std.proofs.Common.{◌≡◌, ◌∙◌, ap, sym, subst, refl, inl, inr, ℕ, zero, suc, ◌+◌, Bool, true, false, ◌&&◌, ◌==◌}
 use Rattle.std.proofs.Common.{List, [], ◌∷◌, ◌++◌, length, drop, Option, Some, None, option_map, arith, cond, if◌then◌else◌}
-use Rattle.std.specs.Prelude.{◌⊎◌, option_and_then, codes, nat_le}
+use Rattle.std.specs.Prelude.{option_and_then, codes, nat_le}
 use Rattle.std.specs.List.{list_all}
 use Rattle.std.specs.Str.{bytes_eq}
 use Rattle.std.specs.Cmp.Lexicographic.{bytes_decides}
-use Rattle.std.proofs.lemmas.Bool.{and_parts, and_from, eqb-true, cases_Bool}
+use Rattle.std.proofs.lemmas.Bool.{and_parts, and_from}
 use Rattle.std.proofs.lemmas.Bool.Decides.{nat_tests}
 use Rattle.std.proofs.lemmas.List.Folds.{list_all-append}
-use Rattle.std.proofs.lemmas.Option.{cond_some, same_Some}
+use Rattle.std.proofs.lemmas.Option.{same_Some}
 use Rattle.ordup_objects.specs.Names.{is_name, is_name_byte, begins_with_letter}
 use Rattle.ordup_grammar.specs.declared.declaration.ScopeWord.{ScopeWord}
 use Rattle.ordup_grammar.specs.declared.declaration.ScopeWord.TheVariants as scope
-use Rattle.ordup_entries.specs.Sizes.{most_counted, most_number, most_word_bytes, most_amount}
-use Rattle.ordup_entries.specs.Words.{within, is_word, is_client, is_client_byte, is_changes, is_word_byte}
-use Rattle.ordup_entries.specs.Steps.{word_text, number_text, refusal_text, answer_text, limit_answer_text, age_text, seconds_text, settings_text, scope_text, step_text}
-use Rattle.ordup_entries.specs.Steps.{is_refusal, is_answer, is_limit_answer, is_settings, is_scope, is_step}
-use Rattle.ordup_entries.specs.Fields.{is_space, first_word, word_at, tested_at, behind, number_within, number_at, text_at, last, both, after}
+use Rattle.ordup_entries.specs.Words.{within, is_word, is_client, is_client_byte, is_word_byte}
+use Rattle.ordup_entries.specs.Steps.{word_text, number_text, answer_text, limit_answer_text, age_text, seconds_text, settings_text, scope_text}
+use Rattle.ordup_entries.specs.Steps.{is_answer, is_limit_answer, is_settings, is_scope}
+use Rattle.ordup_entries.specs.Fields.{word_at, tested_at, number_within, number_at, last, both}
 use Rattle.ordup_entries.specs.Lines.{refusal_at, acknowledged_at, answer_by, answer_at, limit_answer_by, limit_answer_at, aged_by, aged_at, seconds_at, began_by, began_at, settings_by, settings_at, scope_by, scope_at}
-use Rattle.ordup_entries.specs.Lines.{known_at, tell_at, ask_at, gone_at, relimit_at, answered_at, step_by, step_of}
 use Rattle.ordup_entries.specs.declared.answer.Answer.{Answer}
 use Rattle.ordup_entries.specs.declared.answer.Answer.TheVariants as answer
 use Rattle.ordup_entries.specs.declared.answer.LimitAnswer.{LimitAnswer}
 use Rattle.ordup_entries.specs.declared.answer.LimitAnswer.TheVariants as limit
 use Rattle.ordup_entries.specs.declared.settings.Settings.{Settings}
 use Rattle.ordup_entries.specs.declared.settings.Began.{Began}
-use Rattle.ordup_entries.specs.declared.step.Step.{Step}
-use Rattle.ordup_entries.specs.declared.step.Step.TheVariants.{
-  Begin,
-  Declare,
-  Known,
-  Tell,
-  Ask,
-  Settle,
-  Wish,
-  Want,
-  Leave,
-  Gone,
-  Relimit,
-  Elapsed,
-  Answered,
-}
-use Rattle.ordup_entries.proofs.FieldLaws.{Stops, is_inner, IsField, IsEnd, bind_some, map_some, chosen, cond_none, first_word-again, first_word-parts, word_at-takes, word_at-again, inner-word}
-use Rattle.ordup_entries.proofs.FieldLaws.{tested_law, number_law, text_law, last_law, both_law, after_law}
+use Rattle.ordup_entries.proofs.FieldLaws.{Stops, is_inner, IsField, IsEnd, bind_some, map_some, chosen, cond_none, word_at-takes, word_at-again, inner-word}
+use Rattle.ordup_entries.proofs.FieldLaws.{tested_law, number_law, last_law, both_law, after_law}
 
 -- ---- names and words
 
@@ -105,10 +87,10 @@ pub mapped_law : {X Y : Type 0} (at : List ℕ → Option X) (text : X → List 
     → IsEnd (λ bytes. option_map make (at bytes)) (λ y. text (back y)) (λ y. fits (back y))
 mapped_law at text fits L make back there and_back = record {
   takes = λ bytes y e.
-    let m = map_some make (at bytes) y e in
-    let l = L.takes bytes m.0 m.1 in
-    let is : m.0 ≡ back y = sym (there m.0) ∙ ap back m.2 in
-    (l.0 ∙ ap text is, subst (λ x. fits x ≡ true) is l.1);
+      let m = map_some make (at bytes) y e in
+      let l = L.takes bytes m.0 m.1 in
+      let is : m.0 ≡ back y = sym (there m.0) ∙ ap back m.2 in
+      (l.0 ∙ ap text is, subst (λ x. fits x ≡ true) is l.1);
   again = λ y h. ap (option_map make) (L.again (back y) h) ∙ ap (λ y. Some y) (and_back y);
   stops = λ y. L.stops (back y);
   inner = λ y h. L.inner (back y) h;
@@ -300,8 +282,8 @@ aged_law = record {
   again = λ x h. aged-again x.0 x.1 h;
   stops = λ x. aged-stops (x.0 == 0) (number_text x.0) (answer_text x.1) refl (answer_law.stops x.1);
   inner = λ x h.
-    let parts = and_parts (within 0 999999999999999999 x.0) (is_answer x.1) h in
-    list_all-append is_inner (age_text x.0) (answer_text x.1) ∙ and_from _ _ (age_inner x.0 parts.0) (answer_law.inner x.1 parts.1);
+      let parts = and_parts (within 0 999999999999999999 x.0) (is_answer x.1) h in
+      list_all-append is_inner (age_text x.0) (answer_text x.1) ∙ and_from _ _ (age_inner x.0 parts.0) (answer_law.inner x.1 parts.1);
 }
 
 -- ---- settings

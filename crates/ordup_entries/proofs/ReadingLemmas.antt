@@ -1,15 +1,10 @@
 -- The steps of an entry, line by line.
-use Rattle.std.proofs.Common.{◌≡◌, ◌∙◌, ap, sym, refl, inl, inr, ℕ, zero, suc, ◌+◌, ◌-◌, ◌<◌, ◌≤◌, Bool, true, false, ◌==◌}
-use Rattle.std.proofs.Common.{List, [], ◌∷◌, ◌++◌, length, take, drop, Option, Some, None, Result, Ok, Err, arith, cond, nat_lt, add-one, append_assoc, slice_get}
-use Rattle.std.specs.List.{flat_map, slice_split, onto_first}
-use Rattle.std.proofs.lemmas.Bool.Decides.{nat_tests}
-use Rattle.std.proofs.lemmas.List.{append-nil}
-use Rattle.std.proofs.lemmas.List.Concat.{flat_map-cons}
+use Rattle.std.proofs.Common.{◌≡◌, ◌∙◌, ap, sym, refl, ℕ, ◌+◌, ◌-◌, Bool, true, false}
+use Rattle.std.proofs.Common.{List, [], ◌∷◌, ◌++◌, length, Option, Some, None, Result, Ok, Err, cond, nat_lt, append_assoc}
+use Rattle.std.specs.List.{onto_first}
 use Rattle.ordup_entries.specs.Parts.{is_line_feed, parts_of}
-use Rattle.ordup_entries.specs.Steps.{step_text}
 use Rattle.ordup_entries.specs.Lines.{step_of}
 use Rattle.ordup_entries.specs.Orders.{may_be_next, part_behind, counted}
-use Rattle.ordup_entries.specs.Entries.{line_of}
 use Rattle.ordup_entries.specs.Reading.{next_by, with_step, with_header, header_of, option_cases, steps_of, entry_by, entry_of, told, Fails, FailsSteps}
 use Rattle.ordup_entries.specs.declared.entry.Header.{Header}
 use Rattle.ordup_entries.specs.declared.error.ReadError.{ReadError}
@@ -33,7 +28,7 @@ some_parts (byte ∷ text) = some_of (is_line_feed byte) byte (parts_of text)
 pub one_more : (number : ℕ) (part : Part) (room : ℕ) (line text : List ℕ)
     → steps_of number part room (line ∷ parts_of text)
     ≡ option_cases (next_by part room (step_of line)) (Err number)
-        (λ step. with_step step (steps_of (number + 1) (part_behind step) (room - counted step) (parts_of text)))
+    (λ step. with_step step (steps_of (number + 1) (part_behind step) (room - counted step) (parts_of text)))
 one_more number part room line text = let s = some_parts text in rw s.1 refl
 
 pub no_next : (number : ℕ) (part : Part) (room : ℕ) (lines line text : List ℕ) → parts_of lines ≡ line ∷ parts_of text
@@ -76,7 +71,6 @@ goes_on steps step number next read whole total is more so_far =
 pub with_none : (read : Result (List Step) ℕ) → with_front [] read ≡ read
 with_none (Ok more) = refl
 with_none (Err number) = refl
-
 
 no_header_by : (o : Option Header) (read : Result (List Step) ℕ) → o ≡ None
     → told (option_cases o (Err 1) (λ header. with_header header read)) ≡ Err (errors.Line 1)

@@ -1,30 +1,20 @@
 -- A line that is read as a step is the text of that step, and the text of a step of the form is read as it.
-use Rattle.std.proofs.Common.{◌≡◌, ◌∙◌, ap, sym, subst, refl, inl, inr, ℕ, zero, suc, ◌+◌, ◌^◌, ◌<◌, ◌≤◌, Bool, true, false, ◌&&◌, ◌==◌}
-use Rattle.std.proofs.Common.{List, [], ◌∷◌, ◌++◌, length, drop, Option, Some, None, option_map, arith, cond, if◌then◌else◌}
-use Rattle.std.specs.Prelude.{◌⊎◌, option_and_then, codes, nat_le}
+use Rattle.std.proofs.Common.{◌≡◌, ◌∙◌, ap, refl, inl, inr, ℕ, Bool, true, ◌&&◌}
+use Rattle.std.proofs.Common.{List, ◌++◌, Option, Some, None, option_map, if◌then◌else◌}
+use Rattle.std.specs.Prelude.{codes}
 use Rattle.std.specs.List.{list_all}
 use Rattle.std.specs.Str.{bytes_eq}
-use Rattle.std.specs.Cmp.Lexicographic.{bytes_decides}
-use Rattle.std.proofs.lemmas.Bool.{and_parts, and_from, eqb-true, cases_Bool}
-use Rattle.std.proofs.lemmas.Bool.Decides.{nat_tests}
-use Rattle.std.proofs.lemmas.List.Folds.{list_all-append}
-use Rattle.std.proofs.lemmas.Option.{cond_some, same_Some}
-use Rattle.ordup_objects.specs.Names.{is_name, is_name_byte, begins_with_letter}
+use Rattle.ordup_objects.specs.Names.{is_name}
 use Rattle.ordup_grammar.specs.declared.declaration.ScopeWord.{ScopeWord}
-use Rattle.ordup_grammar.specs.declared.declaration.ScopeWord.TheVariants as scope
-use Rattle.ordup_entries.specs.Sizes.{most_counted, most_number, most_word_bytes, most_amount}
-use Rattle.ordup_entries.specs.Words.{within, is_word, is_client, is_client_byte, is_changes, is_word_byte}
-use Rattle.ordup_entries.specs.Steps.{word_text, number_text, refusal_text, answer_text, limit_answer_text, age_text, seconds_text, settings_text, scope_text, step_text}
-use Rattle.ordup_entries.specs.Steps.{is_refusal, is_answer, is_limit_answer, is_settings, is_scope, is_step}
-use Rattle.ordup_entries.specs.Fields.{is_space, first_word, word_at, tested_at, behind, number_within, number_at, text_at, last, both, after}
-use Rattle.ordup_entries.specs.Lines.{refusal_at, acknowledged_at, answer_by, answer_at, limit_answer_by, limit_answer_at, aged_by, aged_at, seconds_at, began_by, began_at, settings_by, settings_at, scope_by, scope_at}
+use Rattle.ordup_entries.specs.Words.{within, is_word, is_client, is_changes}
+use Rattle.ordup_entries.specs.Steps.{word_text, number_text, answer_text, limit_answer_text, settings_text, scope_text, step_text}
+use Rattle.ordup_entries.specs.Steps.{is_answer, is_limit_answer, is_settings, is_scope, is_step}
+use Rattle.ordup_entries.specs.Fields.{first_word, tested_at, number_at, text_at, last, both}
+use Rattle.ordup_entries.specs.Lines.{answer_at, limit_answer_at, aged_at, settings_at, scope_at}
 use Rattle.ordup_entries.specs.Lines.{known_at, tell_at, ask_at, gone_at, relimit_at, answered_at, step_by, step_of}
 use Rattle.ordup_entries.specs.declared.answer.Answer.{Answer}
-use Rattle.ordup_entries.specs.declared.answer.Answer.TheVariants as answer
 use Rattle.ordup_entries.specs.declared.answer.LimitAnswer.{LimitAnswer}
-use Rattle.ordup_entries.specs.declared.answer.LimitAnswer.TheVariants as limit
 use Rattle.ordup_entries.specs.declared.settings.Settings.{Settings}
-use Rattle.ordup_entries.specs.declared.settings.Began.{Began}
 use Rattle.ordup_entries.specs.declared.step.Step.{Step}
 use Rattle.ordup_entries.specs.declared.step.Step.TheVariants.{
   Begin,
@@ -41,7 +31,7 @@ use Rattle.ordup_entries.specs.declared.step.Step.TheVariants.{
   Elapsed,
   Answered,
 }
-use Rattle.ordup_entries.proofs.FieldLaws.{Stops, is_inner, IsField, IsEnd, chosen, first_word-again, first_word-parts}
+use Rattle.ordup_entries.proofs.FieldLaws.{is_inner, IsEnd, chosen, first_word-again, first_word-parts}
 use Rattle.ordup_entries.proofs.FieldLaws.{text_law, last_law, both_law}
 use Rattle.ordup_entries.proofs.LineLaws.{named, client_law, name_law, word_law, counted_law, from_zero_law, greatest_law, amount_law, aged_text, is_aged}
 use Rattle.ordup_entries.proofs.LineLaws.{answer_law, limit_law, aged_law, settings_law, scope_law}

@@ -1,12 +1,10 @@
 -- The fields of a line: how each is read from what is left of the line. A field begins with a space and a word.
-use Rattle.std.specs.Prelude.{ℕ, Bool, ◌&&◌, ◌==◌, ◌+◌, List, [], ◌∷◌, length, take, drop, Option, Some, None}
-use Rattle.std.specs.Prelude.{option_map, option_and_then, codes, if◌then◌else◌}
+use Rattle.std.specs.Prelude.{ℕ, Bool, ◌&&◌, ◌==◌, List, [], ◌∷◌, length, take, drop, Option, Some, None}
+use Rattle.std.specs.Prelude.{option_map, option_and_then, if◌then◌else◌}
 use Rattle.std.specs.List.{position_or_len}
 use Rattle.std.specs.Str.{bytes_eq}
-use Rattle.ordup_objects.specs.Names.{is_name}
 use Rattle.ordup_grammar.specs.Numbers.{number_of, amount_of}
-use Rattle.ordup_entries.specs.Sizes.{most_counted, most_number, most_word_bytes}
-use Rattle.ordup_entries.specs.Words.{within, is_word, is_client, is_changes}
+use Rattle.ordup_entries.specs.Words.{within, is_changes}
 
 abbrev pub is_space : ℕ → Bool
 is_space byte = byte == 32

@@ -1,5 +1,5 @@
 -- How the line of a step is read.
-use Rattle.std.specs.Prelude.{ℕ, Bool, ◌&&◌, ◌==◌, ◌+◌, List, [], ◌∷◌, length, Option, Some, None}
+use Rattle.std.specs.Prelude.{ℕ, ◌==◌, ◌+◌, List, length, Option, Some, None}
 use Rattle.std.specs.Prelude.{option_map, option_and_then, codes, if◌then◌else◌}
 use Rattle.std.specs.Str.{bytes_eq}
 use Rattle.ordup_objects.specs.Names.{is_name}

@@ -1,7 +1,7 @@
 -- What words of an entry may be.
 use Rattle.std.specs.Prelude.{ℕ, Bool, ◌&&◌, ◌||◌, ◌==◌, List, length, nat_le}
 use Rattle.std.specs.List.{list_all}
-use Rattle.ordup_objects.specs.Names.{is_letter, is_name_byte}
+use Rattle.ordup_objects.specs.Names.{is_name_byte}
 use Rattle.ordup_entries.specs.Sizes.{most_client_bytes, most_changes_bytes}
 
 -- whether a number lies from one to another

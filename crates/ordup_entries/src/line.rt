@@ -3,8 +3,8 @@ ghost use Rattle.std.specs.Prelude.{◌≡◌};
 ghost use Rattle.ordup_entries.specs.Lines.{answer_by, answer_at, limit_answer_by, limit_answer_at, aged_at, seconds_at, began_at, settings_at, scope_by, scope_at, refusal_at, acknowledged_at};
 ghost use Rattle.ordup_entries.specs.Lines.{known_at, tell_at, ask_at, gone_at, relimit_at, answered_at, step_by, step_of};
 
-use crate::fields::is_spelled;
 use crate::answer::{Answer, LimitAnswer};
+use crate::fields::is_spelled;
 use crate::settings::{Began, Settings};
 use crate::sizes::{MOST_AMOUNT, MOST_COUNTED, MOST_NUMBER, MOST_WORD_BYTES};
 use crate::step::Step;

@@ -11,7 +11,9 @@ use crate::entry::{Entry, Header};
 use crate::error::ReadError;
 use crate::fields::is_spelled;
 use crate::order::Part;
-use crate::sizes::{MOST_COUNTED, MOST_ENTRY_BYTES, MOST_NUMBER, MOST_WORD_BYTES, MOST_WRITER_BYTES};
+use crate::sizes::{
+    MOST_COUNTED, MOST_ENTRY_BYTES, MOST_NUMBER, MOST_WORD_BYTES, MOST_WRITER_BYTES,
+};
 use crate::step::Step;
 use crate::text::Text;
 use std::alloc::Allocator;

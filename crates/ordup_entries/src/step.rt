@@ -21,7 +21,10 @@ pub enum Step<'a> {
         answer: Answer<'a>,
     },
     /// `tell S N`: the site has applied N updates more than it had told.
-    Tell { site: Word<'a>, count: u64 },
+    Tell {
+        site: Word<'a>,
+        count: u64,
+    },
     /// `ask C N ..`: the request N of a client, by its changes.
     Ask {
         client: Word<'a>,
@@ -29,15 +32,22 @@ pub enum Step<'a> {
         changes: Text<'a>,
     },
     /// `settle N`: N settlements are asked for.
-    Settle { count: u64 },
+    Settle {
+        count: u64,
+    },
     /// `wish ..`: what an operator wants of the next epoch.
     Wish(Settings<'a>),
     /// `want ..`: a line of the declarations that are wanted.
     Want(Text<'a>),
     /// `leave S`: the site is taken out, and serves no reader from here on.
-    Leave { site: Word<'a> },
+    Leave {
+        site: Word<'a>,
+    },
     /// `gone S N`: no process has a lease of the site that is taken out, and it counts as at the end.
-    Gone { site: Word<'a>, count: u64 },
+    Gone {
+        site: Word<'a>,
+        count: u64,
+    },
     /// `relimit S .. N ..`: a limit of the site is changed, or given to it, if the store takes that.
     Relimit {
         site: Word<'a>,
@@ -46,7 +56,9 @@ pub enum Step<'a> {
         answer: LimitAnswer<'a>,
     },
     /// `elapsed N`: N more seconds have passed, by the clock of the writer.
-    Elapsed { seconds: u64 },
+    Elapsed {
+        seconds: u64,
+    },
     /// `answer C N D ..`: what was decided for a client in the entry.
     Answered {
         client: Word<'a>,

@@ -61,10 +61,7 @@ impl<'a> Text<'a> {
         ensures { result ≡ first_word self.now }
     {
         let end = index_of(self.bytes, b' ');
-        (
-            Word::new(&self.bytes[..end]),
-            Text::new(&self.bytes[end..]),
-        )
+        (Word::new(&self.bytes[..end]), Text::new(&self.bytes[end..]))
     }
 
     /// The word behind a space, and what is left.

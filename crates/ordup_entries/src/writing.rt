@@ -161,7 +161,10 @@ fn push_request<A: Allocator + Copy>(
 
 impl<'a> Step<'a> {
     /// Pushes the line of the step, without its line feed.
-    pub(crate) fn push<A: Allocator + Copy>(&self, out: &mut TextBuffer<A>) -> Result<(), AllocError>
+    pub(crate) fn push<A: Allocator + Copy>(
+        &self,
+        out: &mut TextBuffer<A>,
+    ) -> Result<(), AllocError>
         ensures { OnOk result (out.new.text ≡ out.old.text ++ step_text self.now) }
     {
         match self {
@@ -259,7 +262,10 @@ fn push_header<A: Allocator + Copy>(
     push_word(out, header.writer.as_bytes())
 }
 
-fn push_line<A: Allocator + Copy>(out: &mut TextBuffer<A>, step: &Step<'_>) -> Result<(), AllocError>
+fn push_line<A: Allocator + Copy>(
+    out: &mut TextBuffer<A>,
+    step: &Step<'_>,
+) -> Result<(), AllocError>
     ensures { OnOk result (out.new.text ≡ out.old.text ++ line_of (step_text step.now)) }
 {
     step.push(out)?;

@@ -1,6 +1,5 @@
 use Rattle.std.proofs.Common.{◌≡◌, sym, rules, Some, None, refl}
 use Rattle.ordup_entries.specs.Lines.{step_of}
-use Rattle.ordup_entries.specs.Reading.{next_by}
 use Rattle.ordup_entries.proofs.ReadingLemmas.{no_next, a_next, next-some, next-none}
 use Rattle.ordup_entries.proofs.reading.next_step.Goals as goal
 

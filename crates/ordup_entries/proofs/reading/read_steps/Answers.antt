@@ -1,4 +1,4 @@
-use Rattle.std.proofs.Common.{◌≡◌, ◌+◌, ◌-◌, ◌++◌, ◌∷◌, [], length, arith, length-append}
+use Rattle.std.proofs.Common.{◌+◌, ◌-◌, ◌++◌, ◌∷◌, [], length, arith, length-append}
 use Rattle.ordup_entries.specs.Parts.{parts_of}
 use Rattle.ordup_entries.specs.Orders.{part_behind, counted}
 use Rattle.ordup_entries.specs.Reading.{steps_of}

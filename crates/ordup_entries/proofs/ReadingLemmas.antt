@@ -68,19 +68,6 @@ pub goes_on : (steps : List Step) (step : Step) (number next : ℕ) (read : ℕ 
 goes_on steps step number next read whole total is more so_far =
     sym (regrouped steps step (read next)) ∙ ap (λ n. with_front steps (with_step step (read n))) is ∙ ap (with_front steps) (sym more) ∙ so_far
 
-pub with_none : (read : Result (List Step) ℕ) → with_front [] read ≡ read
-with_none (Ok more) = refl
-with_none (Err number) = refl
-
-no_header_by : (o : Option Header) (read : Result (List Step) ℕ) → o ≡ None
-    → told (option_cases o (Err 1) (λ header. with_header header read)) ≡ Err (errors.Line 1)
-no_header_by o read none = rw none refl
-
--- a text whose first line is none
-pub no_header : (text line rest : List ℕ) → parts_of text ≡ line ∷ parts_of rest → header_of line ≡ None
-    → told (entry_by (parts_of text)) ≡ Err (errors.Line 1)
-no_header text line rest is none = let s = some_parts rest in rw (is, s.1) (no_header_by (header_of line) _ none)
-
 pub a_header : (text line rest : List ℕ) (header : Header) → parts_of text ≡ line ∷ parts_of rest → header_of line ≡ Some header
     → told (entry_by (parts_of text)) ≡ told (with_header header (steps_of 2 Start 1000000 (parts_of rest)))
 a_header text line rest header is some =

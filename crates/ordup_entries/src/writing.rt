@@ -284,7 +284,8 @@ fn push_steps<A: Allocator + Copy>(
     Ok(())
 }
 
-/// Pushes the text of an entry.
+// promise: what is written of an entry is its text, byte for byte
+/// Pushes the text of an entry, be it of the form or not.
 pub fn write_entry<A: Allocator + Copy, B: Allocator + Copy>(
     out: &mut TextBuffer<A>,
     entry: &Entry<'_, B>,

@@ -22,7 +22,17 @@ fn is_step_at(index: usize, step: &Step<'_>) -> bool {
     match (index, step) {
         (0, Step::Begin(settings)) => are_settings(settings),
         (1, Step::Declare(line)) => line.as_bytes() == b"object tea 5".as_slice(),
-        (2, Step::Known { client, number, digest, epoch, age, answer: Answer::Acknowledged { place, epoch: of } }) => {
+        (
+            2,
+            Step::Known {
+                client,
+                number,
+                digest,
+                epoch,
+                age,
+                answer: Answer::Acknowledged { place, epoch: of },
+            },
+        ) => {
             client.as_bytes() == b"ann".as_slice()
                 && *number == 3
                 && digest.as_bytes() == b"ab".as_slice()
@@ -32,7 +42,14 @@ fn is_step_at(index: usize, step: &Step<'_>) -> bool {
                 && *of == 1
         }
         (3, Step::Tell { site, count }) => site.as_bytes() == b"south".as_slice() && *count == 2,
-        (4, Step::Ask { client, number, changes }) => {
+        (
+            4,
+            Step::Ask {
+                client,
+                number,
+                changes,
+            },
+        ) => {
             client.as_bytes() == b"ann".as_slice()
                 && *number == 4
                 && changes.as_bytes() == b"add:tea:-1 set:till:3".as_slice()
@@ -42,17 +59,42 @@ fn is_step_at(index: usize, step: &Step<'_>) -> bool {
         (7, Step::Want(line)) => line.as_bytes() == b"start".as_slice(),
         (8, Step::Leave { site }) => site.as_bytes() == b"south".as_slice(),
         (9, Step::Gone { site, count }) => site.as_bytes() == b"south".as_slice() && *count == 0,
-        (10, Step::Relimit { site, scope: ScopeWord::Object(object), amount, answer: LimitAnswer::InForce { place } }) => {
+        (
+            10,
+            Step::Relimit {
+                site,
+                scope: ScopeWord::Object(object),
+                amount,
+                answer: LimitAnswer::InForce { place },
+            },
+        ) => {
             site.as_bytes() == b"south".as_slice()
                 && object.as_bytes() == b"tea".as_slice()
                 && *amount == 20
                 && *place == 7
         }
-        (11, Step::Relimit { scope: ScopeWord::All, amount, answer: LimitAnswer::Refused { number, name }, .. }) => {
-            *amount == 0 && *number == 25 && name.as_bytes() == b"LagOver".as_slice()
-        }
+        (
+            11,
+            Step::Relimit {
+                scope: ScopeWord::All,
+                amount,
+                answer: LimitAnswer::Refused { number, name },
+                ..
+            },
+        ) => { *amount == 0 && *number == 25 && name.as_bytes() == b"LagOver".as_slice() }
         (12, Step::Elapsed { seconds }) => *seconds == 5,
-        (13, Step::Answered { client, number, digest, answer: Answer::Refused { number: refusal, name } }) => {
+        (
+            13,
+            Step::Answered {
+                client,
+                number,
+                digest,
+                answer: Answer::Refused {
+                    number: refusal,
+                    name,
+                },
+            },
+        ) => {
             client.as_bytes() == b"ann".as_slice()
                 && *number == 4
                 && digest.as_bytes() == b"cd".as_slice()
@@ -63,6 +105,7 @@ fn is_step_at(index: usize, step: &Step<'_>) -> bool {
     }
 }
 
+// shows: read_entry found
 #[test]
 fn each_kind_of_step_is_read(rt: HostRuntime) {
     let entry = match read_entry(rt.alloc(), WHOLE.as_bytes()) {

@@ -1,5 +1,6 @@
 //! Texts that are read and written again, and texts that are no entries.
-use ordup_entries::{ReadError, read_entry, write_entry};
+use ordup_entries::{Entry, Header, ReadError, Step, Text, read_entry, write_entry};
+use ordup_grammar::Word;
 use ordup_text::TextBuffer;
 use std::alloc::Global;
 use std::process::Abort;
@@ -39,6 +40,7 @@ const ENTRIES: [&str; 10] = [
     "ordup-node 1 epoch 999999999999999999 ordup 1 writer p\ntell a 999999\ngone b 0\nsettle 1\n",
 ];
 
+// shows: write_entry; read_entry found
 #[test]
 fn entries_are_written_as_they_were_read(rt: HostRuntime) -> Result<(), Fail> {
     for text in ENTRIES {
@@ -121,6 +123,7 @@ fn expect_line(rt: &impl Abort, heap: Global, text: &[u8], line: u64) {
     }
 }
 
+// shows: read_entry exact
 #[test]
 fn the_first_line_that_is_wrong_is_told(rt: HostRuntime) -> Result<(), Fail> {
     for text in NO_FIRST_LINES {
@@ -132,5 +135,32 @@ fn the_first_line_that_is_wrong_is_told(rt: HostRuntime) -> Result<(), Fail> {
         text.push(lines.as_bytes())?;
         expect_line(&rt, rt.alloc(), text.as_slice(), line);
     }
+    Ok(())
+}
+
+// shows: write_entry
+#[test]
+fn an_entry_is_written_of_its_parts(rt: HostRuntime) -> Result<(), Fail> {
+    let mut steps = Vec::new(rt.alloc());
+    steps.push(Step::Tell {
+        site: Word::new(b"south"),
+        count: 2,
+    })?;
+    steps.push(Step::Ask {
+        client: Word::new(b"ann"),
+        number: 7,
+        changes: Text::new(b"add:tea:-5"),
+    })?;
+    let header = Header {
+        epoch: 1,
+        version: Word::new(b"0.2.0"),
+        writer: Word::new(b"p1-17"),
+    };
+    let mut out = TextBuffer::new(rt.alloc());
+    write_entry(&mut out, &Entry::new(header, steps))?;
+    assert_eq!(&rt;
+        out.as_slice(),
+        b"ordup-node 1 epoch 1 ordup 0.2.0 writer p1-17\ntell south 2\nask ann 7 add:tea:-5\n".as_slice()
+    );
     Ok(())
 }

@@ -116,9 +116,7 @@ fn each_kind_of_step_is_read(rt: HostRuntime) {
     assert_eq!(&rt; entry.header().version.as_bytes(), b"0.2.0".as_slice());
     assert_eq!(&rt; entry.header().writer.as_bytes(), b"p1-17".as_slice());
     assert_eq!(&rt; entry.steps().len(), 14);
-    let mut index = 0;
-    for step in entry.steps() {
+    for (index, step) in entry.steps().iter().enumerate() {
         assert!(&rt; is_step_at(index, step), "step {index}");
-        index += 1;
     }
 }

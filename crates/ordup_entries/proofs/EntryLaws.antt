@@ -42,7 +42,7 @@ inner_each (byte ∷ bytes) h =
     (not_true (is_line_feed byte) parts.0, inner_each bytes parts.1)
 
 -- the first part of a text that begins with a line
-line_parts : (line rest : List ℕ) → list_all is_inner line ≡ true → parts_of (line_of line ++ rest) ≡ line ∷ parts_of rest
+pub line_parts : (line rest : List ℕ) → list_all is_inner line ≡ true → parts_of (line_of line ++ rest) ≡ line ∷ parts_of rest
 line_parts line rest h =
     ap parts_of (append_assoc line (10 ∷ []) rest)
     ∙ slice_split_at is_line_feed line 10 rest (All-from_recursion (λ byte. is_line_feed byte ≡ false) line (inner_each line h)) refl
@@ -52,7 +52,7 @@ same_parts a b h = sym (join_with_byte-slice_split 10 a) ∙ ap (join_with_byte 
 
 -- ---- steps
 
-abbrev lines_of : List Step → List ℕ
+abbrev pub lines_of : List Step → List ℕ
 lines_of steps = flat_map (λ s. line_of (step_text s)) steps
 
 abbrev parts_by : List Step → List (List ℕ)
@@ -86,7 +86,7 @@ may_ok : (b : Bool) (found step : Step) → cond b (Some found) None ≡ Some st
 may_ok true found step e = (refl, same_Some found step e)
 may_ok false found step e = absurd cc
 
-next_ok : (part : Part) (room : ℕ) (o : Option Step) (step : Step) → next_by part room o ≡ Some step
+pub next_ok : (part : Part) (room : ℕ) (o : Option Step) (step : Step) → next_by part room o ≡ Some step
     → (o ≡ Some step) × (may_be_next part room step ≡ true)
 next_ok part room None step e = absurd cc
 next_ok part room (Some found) step e =
@@ -166,7 +166,7 @@ header_law =
     mapped_law _ _ _ (after_law (codes "1") refl _ _ _ (after_law (codes "epoch") refl _ _ _ (both_law _ _ _ greatest_law _ _ _ (after_law (codes "ordup") refl _ _ _ (both_law _ _ _ word_law _ _ _ (after_law (codes "writer") refl _ _ _ (last_law _ _ _ writer_law))))))) header_by header_back
     (λ x. refl) (λ y. refl)
 
-header-takes : (line : List ℕ) (h : Header) → header_of line ≡ Some h → (line ≡ header_text h) × (is_header h ≡ true)
+pub header-takes : (line : List ℕ) (h : Header) → header_of line ≡ Some h → (line ≡ header_text h) × (is_header h ≡ true)
 header-takes line h e =
     elim (chosen (bytes_eq (first_word line).0 (codes "ordup-node")) (header_at (first_word line).1) None (Some h) e) [
       | inl is ↦ (let t = header_law.takes (first_word line).1 h is.1 in
@@ -175,13 +175,13 @@ header-takes line h e =
       | inr none ↦ absurd (let e = none.1 in cc)
     ]
 
-header-again : (h : Header) → is_header h ≡ true → header_of (header_text h) ≡ Some h
+pub header-again : (h : Header) → is_header h ≡ true → header_of (header_text h) ≡ Some h
 header-again h is =
     ap (λ (w : List ℕ × List ℕ). cond (bytes_eq w.0 (codes "ordup-node")) (header_at w.1) None)
     (first_word-again (codes "ordup-node") (header_fields h) refl refl)
     ∙ header_law.again h is
 
-header_inner : (h : Header) → is_header h ≡ true → list_all is_inner (header_text h) ≡ true
+pub header_inner : (h : Header) → is_header h ≡ true → list_all is_inner (header_text h) ≡ true
 header_inner h is = header_law.inner h is
 
 -- ---- entries

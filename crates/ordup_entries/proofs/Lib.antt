@@ -3,3 +3,4 @@ pub mod LineLaws
 pub mod StepLaws
 pub mod ReadingLemmas
 pub mod EntryLaws
+pub mod WrongLineLaws

@@ -8,3 +8,4 @@ pub mod Orders
 pub mod Entries
 pub mod Reading
 pub mod Laws
+pub mod WrongLines

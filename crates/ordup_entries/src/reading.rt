@@ -1,10 +1,11 @@
 //! An entry, read.
-ghost use Rattle.std.specs.Prelude.{◌≡◌, ◌≤◌, ◌<◌, ◌+◌, ◌-◌, ℕ, true, IfOk, Ok, Err, MatchOption, length};
+ghost use Rattle.std.specs.Prelude.{◌≡◌, ◌≤◌, ◌<◌, ◌+◌, ◌-◌, ℕ, true, IfOk, IfErr, Ok, Err, MatchOption, length};
 ghost use Rattle.ordup_entries.specs.Parts.{parts_of};
 ghost use Rattle.ordup_entries.specs.Orders.{part_behind, counted};
 ghost use Rattle.ordup_entries.specs.Entries.{ScriptEntry, is_entry, text_of};
 ghost use Rattle.ordup_entries.specs.Reading.{header_at, header_of, steps_of, with_step, entry_of, Gives, GivesSteps};
 ghost use Rattle.ordup_entries.specs.Sizes.{most_counted};
+ghost use Rattle.ordup_entries.specs.WrongLines.{IsTold};
 ghost use Rattle.ordup_entries.specs.declared.order.Part.TheVariants.{Start};
 
 use crate::entry::{Entry, Header};
@@ -111,19 +112,21 @@ fn read<'a, A: Allocator + Copy>(alloc: A, text: &'a [u8]) -> Result<Entry<'a, A
     }
 }
 
-// promise found only exact: a text is read as an entry where it is the text of one of the form, as that one alone; else its first wrong line is told
+// promise found only told exact: a text is read as an entry where it is the text of one of the form, as that one alone; else its first wrong line is told
 /// The entry that a text is. It promises, clause by clause:
 ///
 /// - `found`: the entry is of the form, and the text is its text, each byte of it.
 /// - `only`: the text of an entry of the form is read as that entry, unless memory is refused.
-/// - `exact`: of any other text the number of the first line is told that is not of the form, or may not stand where it stands. A text
-///   that is too long is told before any line is looked at.
+/// - `told`: of any other text the number of its first wrong line is told, from 1: the lines before it begin an entry, and with it they begin
+///   none. A text that has too many bytes is told before any line is looked at.
+/// - `exact`: which of all this it is follows from the text alone.
 pub fn read_entry<'a, A: Allocator + Copy>(
     alloc: A,
     text: &'a [u8],
 ) -> Result<Entry<'a, A>, ReadError>
     ensures found { IfOk result (λ e. (is_entry e ≡ true) × (text.now ≡ text_of e)) }
     ensures only { (e : ScriptEntry) → is_entry e ≡ true → text.now ≡ text_of e → Gives result (Ok e) }
+    ensures told { IfErr result (λ e. IsTold text.now e) }
     ensures exact { Gives result (entry_of text.now) }
 {
     read(alloc, text)

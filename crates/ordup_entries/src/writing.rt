@@ -1,5 +1,5 @@
 //! An entry, written.
-ghost use Rattle.std.specs.Prelude.{◌≡◌, ◌++◌, OnOk};
+ghost use Rattle.std.specs.Prelude.{◌≡◌, ◌++◌, OnOk, OnErr};
 ghost use Rattle.std.specs.List.{flat_map};
 ghost use Rattle.ordup_entries.specs.Steps.{word_text, number_text, refusal_text, answer_text, limit_answer_text, age_text, seconds_text, settings_text, scope_text, step_text};
 ghost use Rattle.ordup_entries.specs.Entries.{header_text, line_of, text_of};
@@ -284,9 +284,7 @@ fn push_steps<A: Allocator + Copy>(
     Ok(())
 }
 
-// promise: what is written of an entry is its text, byte for byte
-/// Pushes the text of an entry, be it of the form or not.
-pub fn write_entry<A: Allocator + Copy, B: Allocator + Copy>(
+fn push_entry<A: Allocator + Copy, B: Allocator + Copy>(
     out: &mut TextBuffer<A>,
     entry: &Entry<'_, B>,
 ) -> Result<(), AllocError>
@@ -295,4 +293,20 @@ pub fn write_entry<A: Allocator + Copy, B: Allocator + Copy>(
     push_header(out, entry.header())?;
     out.push(b"\n")?;
     push_steps(out, entry.steps())
+}
+
+// promise text err: what is written of an entry is its text, byte for byte; where memory is refused nothing is written
+/// Pushes the text of an entry, be it of the form or not. Where memory is refused the buffer has the text that it had.
+pub fn write_entry<A: Allocator + Copy, B: Allocator + Copy>(
+    out: &mut TextBuffer<A>,
+    entry: &Entry<'_, B>,
+) -> Result<(), AllocError>
+    ensures text { OnOk result (out.new.text ≡ out.old.text ++ text_of entry.now) }
+    ensures err { OnErr result (out.new.text ≡ out.old.text) }
+{
+    let mut text = TextBuffer::new(*out.allocator());
+    push_entry(&mut text, entry)?;
+    out.reserve(text.len())?;
+    out.put(text.as_slice());
+    Ok(())
 }

@@ -40,7 +40,7 @@ const ENTRIES: [&str; 10] = [
     "ordup-node 1 epoch 999999999999999999 ordup 1 writer p\ntell a 999999\ngone b 0\nsettle 1\n",
 ];
 
-// shows: write_entry; read_entry found
+// shows: write_entry text; read_entry found
 #[test]
 fn entries_are_written_as_they_were_read(rt: HostRuntime) -> Result<(), Fail> {
     for text in ENTRIES {
@@ -138,7 +138,7 @@ fn the_first_line_that_is_wrong_is_told(rt: HostRuntime) -> Result<(), Fail> {
     Ok(())
 }
 
-// shows: write_entry
+// shows: write_entry text
 #[test]
 fn an_entry_is_written_of_its_parts(rt: HostRuntime) -> Result<(), Fail> {
     let mut steps = Vec::new(rt.alloc());

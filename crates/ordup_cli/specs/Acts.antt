@@ -16,9 +16,14 @@ IsTold old new (Err fault) = AppendsFront old new (fault_text fault)
 abbrev pub IsUsage : Bytes → Bytes → ℕ → Type 0
 IsUsage old new status = ((status ≡ 0) ⊎ (status ≡ 3)) ⊎ (((status ≡ 2) ⊎ (status ≡ 4)) × (new ≡ old))
 
--- a job was done over the input and the output, the faults grew by how it ended, and the status says so too; or no job was
--- done, and nothing was read
+-- a job was done over the input and the output, the faults grew by what it noted, and then by how it ended, and the status says so
+-- too; or no job was done, and nothing was read
 abbrev pub Acts : Streams → Bytes → Bytes → ℕ → Type 0
 Acts s before after status =
-    ((job : Job) × (outcome : Outcome) × Does job s outcome × IsTold before after outcome × (status ≡ status_of outcome))
+    ((job : Job)
+    × (outcome : Outcome)
+    × (noted : Bytes)
+    × Does job s before noted outcome
+    × IsTold noted after outcome
+    × (status ≡ status_of outcome))
     ⊎ ((s.has ≡ s.had) × IsUsage s.old s.new status)

@@ -16,6 +16,8 @@ use std::thread::Threads;
 // promise RunsPlan: `ordup threads` prints the outcome of the plan
 // promise IsTold: a fault has its status, and its line is written
 // promise Answers: as print_answers
+// promise AnswersExplained: as print_answers_explained
+// promise AnswersStrictly: as print_answers_strictly
 // promise Records: as print_record
 // promise Checks: as check_record
 // promise Lags: as print_lag
@@ -27,7 +29,7 @@ use std::thread::Threads;
 /// Does what the words ask for, and answers the exit status. The first word is the program's name.
 ///
 /// Either one of the jobs was done over the input and the output: then nothing but the line of its fault, or a prefix of that
-/// line, was written to `faults`, and the status is that of how the job ended. Or no job was done and nothing was read: the help
+/// line, was written to `faults`, behind the notes where it is `run --explain`, and the status is that of how the job ended. Or no job was done and nothing was read: the help
 /// or the version was printed, or the words were wrong or there was no memory to look at them, and then nothing was printed.
 pub fn act<T: Threads + Wait + Sync, R: Read, W: Write, E: Write>(
     rt: &T,
@@ -45,7 +47,10 @@ pub fn act<T: Threads + Wait + Sync, R: Read, W: Write, E: Write>(
     }) (E.contents faults.old) (E.contents faults.new) result }
 {
     match job_of(alloc, words) {
-        Ok(Some(job)) => end(do_job(rt, alloc, &job, input, output), faults),
+        Ok(Some(job)) => {
+            let outcome = do_job(rt, alloc, &job, input, output, faults);
+            end(outcome, faults)
+        },
         Ok(None) => WRONG_WORDS,
         Err(error) => {
             let status = show_usage(output, faults, &error);

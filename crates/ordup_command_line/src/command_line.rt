@@ -7,6 +7,13 @@ use std::num::NonZeroU8;
 pub enum Job {
     /// Runs a script.
     Run,
+    /// Runs a script, and ends with status 1 where a command was refused.
+    RunStrictly,
+    /// Runs a script, and says why each refused command was.
+    RunExplained {
+        /// Whether it ends with status 1 where a command was refused.
+        strictly: bool,
+    },
     /// Prints the record of a site after a script.
     Record {
         /// The site's name, as it was given.
@@ -49,13 +56,24 @@ fn job_in(alloc: Global, matches: &ArgMatches<'_>) -> Result<Option<Job>, AllocE
         return Ok(None);
     };
     match name {
-        "run" => Ok(Some(Job::Run)),
+        "run" => Ok(Some(run_of(words.get_flag("strict"), words.get_flag("explain")))),
         "record" => record_of(alloc, words.get_str("SITE")),
         "check" => Ok(Some(check_of(words.get_flag("series"), words.get_flag("sites")))),
         "lag" => Ok(Some(lag_of(words.get_flag("series")))),
         "next" => Ok(Some(next_of(words.get_flag("record")))),
         "threads" => Ok(callers_of(words.get_one::<u8>("CLIENTS"))),
         _ => Ok(None),
+    }
+}
+
+/// The job of running a script.
+fn run_of(strictly: bool, explained: bool) -> Job {
+    if explained {
+        Job::RunExplained { strictly }
+    } else if strictly {
+        Job::RunStrictly
+    } else {
+        Job::Run
     }
 }
 
@@ -101,7 +119,7 @@ fn callers_of(callers: Option<u8>) -> Option<Job> {
 
 /// The words that the program takes, with their help.
 fn command<'a>(alloc: Global) -> Result<Command<'a>, AllocError> {
-    let ordup = with_words(Ok(program(alloc)), run(alloc));
+    let ordup = with_job(Ok(program(alloc)), run(alloc));
     let ordup = with_job(ordup, record(alloc));
     let ordup = with_job(ordup, check(alloc));
     let ordup = with_job(ordup, lag(alloc));
@@ -150,12 +168,24 @@ fn with_words<'a>(
 }
 
 /// The words of `ordup run`.
-fn run<'a>(alloc: Global) -> Command<'a> {
+fn run<'a>(alloc: Global) -> Result<Command<'a>, AllocError> {
     words_of(
         alloc,
         "run",
         "Runs a script: answers each command that it reads",
         RUN_HELP,
+    )
+    .arg(
+        Arg::new(alloc, "strict")
+            .long("strict")
+            .action(ArgAction::SetTrue)
+            .help("Ends with status 1 where a command was refused"),
+    )?
+    .arg(
+        Arg::new(alloc, "explain")
+            .long("explain")
+            .action(ArgAction::SetTrue)
+            .help("Says on standard error why each refused command was"),
     )
 }
 
@@ -329,8 +359,13 @@ with # are skipped. Five lines, and their answers:
     propose add:x:5    ok proposed 1
     settle             ok acked 1
 
+With --explain each refused line has a line on standard error too, which says what
+is wrong and what to do:
+
+    line 7: refused 1 Syntax: there is a tab: put spaces in its place
+
 Exit statuses: 0 for every script that was read to its end, also where commands
-were refused. 3 with `read fault`, `write fault` or `input too long` (more than
+were refused, but with --strict 1 then. 3 with `read fault`, `write fault` or `input too long` (more than
 1,073,741,824 bytes) on standard error, 4 with `no memory`, 2 for wrong words.
 The commands, their refusals and their answers: docs/FORMATS.md";
 

@@ -5,3 +5,6 @@ pub mod Followers
 pub mod Runs
 pub mod Plans
 pub mod Plannings
+pub mod Explanations
+pub mod Explainers
+pub mod Explanation

@@ -6,3 +6,5 @@ pub mod Runs
 pub mod Plans
 pub mod Plannings
 pub mod PlanReadings
+pub mod Explanations
+pub mod Explainers

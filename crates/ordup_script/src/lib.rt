@@ -8,6 +8,7 @@
 //! the script leaves; `Planning` (`plan.rt`) adds it to a plan.
 #![tactic(auto)]
 
+mod explaining;
 mod following;
 mod line_reader;
 mod plan;
@@ -15,6 +16,7 @@ mod plan_reader;
 pub mod sizes;
 mod stream;
 
+pub use explaining::run_script_explained;
 pub use following::follow_script;
 pub use ordup_answers::ScriptEnd;
 pub use plan::{Plan, PlanFault};

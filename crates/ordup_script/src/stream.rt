@@ -31,7 +31,7 @@ pub enum ScriptFault {
 /// Answers the lines of a script. It keeps the answers that were not written yet.
 // It owns no memory: of a value that does, a proof does not know what it leaves behind the references in it.
 #[derive(Drop)]
-struct Answerer<'a, W, A: Allocator + Copy = Global> {
+pub(crate) struct Answerer<'a, W, A: Allocator + Copy = Global> {
     script: &'a mut Answering<A>,
     answers: &'a mut TextBuffer<A>,
     output: &'a mut W,

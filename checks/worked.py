@@ -178,7 +178,7 @@ WORKED: list[tuple[str, ...]] = [
     ("a record cut off at each byte", RECORDS + "spellings.txt", "# 121 bytes", RECORD.format(limit=5),
      "~ 0-10 malformed 1\n~ 11-23 malformed 2\n~ 24-36 malformed 3\n~ 37-56 malformed 4\n~ 57-75 malformed 5\n~ 76-94 malformed 6\n"
      "~ 95-96 no 6 LimitsBroken\n~ 97-106 malformed 7\n~ 107-108 no 7 CountDiffers\n~ 109-119 malformed 8\n~ 120-121 yes 1\n"),
-    ("a reader of a record that fails after each byte", OUTSIDE, "for job in [*JOBS[1:]", "for count in range(len(job.given) + 1)",
+    ("a reader of a record that fails after each byte", OUTSIDE, "for job in [*JOBS[3:]", "for count in range(len(job.given) + 1)",
      'fault("read fault"', "a read fails after {count} bytes"),
     ("a reader of the first run that fails", OUTSIDE,
      "for count, written in ((0, 0), (10, 0), (11, 12), (25, 22), (26, 31), (64, 123))"),

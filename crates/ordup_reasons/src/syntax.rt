@@ -152,9 +152,9 @@ fn begins_with(word: &[u8], byte: u8) -> bool {
 /// What stands behind the last colon of a word.
 fn behind_colons(word: &[u8]) -> &[u8] {
     let mut part = word;
-    for place in 0..word.len() {
-        if word[place] == b':' {
-            part = &word[place + 1..];
+    for at in 0..word.len() {
+        if word[at] == b':' {
+            part = &word[at + 1..];
         }
     }
     part

@@ -1,17 +1,18 @@
 -- How a run that is explained ends.
 use Rattle.std.proofs.Common.{◌≡◌, ◌∙◌, sym, ap, subst, ℕ, List, [], ◌++◌, ◌⊎◌, Option}
-use Rattle.std.proofs.Common.{Some, None, IfSome, Err, inl, inr, take, drop, append_assoc, take-append-drop, refl, true, false}
+use Rattle.std.proofs.Common.{Some, None, IfSome, Err, inl, inr, take, drop, append_assoc, take-append-drop, refl, true}
 use Rattle.std.proofs.lemmas.List.{append-nil}
-use Rattle.std.proofs.KnownBytes.{Appends-nil, Consumes-whole}
+use Rattle.std.proofs.KnownBytes.{Consumes-whole}
 use Rattle.std.specs.Io.KnownBytes.{Appends, Consumes, IsAtEnd}
 use Rattle.std.specs.Prelude.{Result, Ok}
 use Rattle.ordup_grammar.specs.Lines.{Line}
 use Rattle.ordup_answers.specs.Scripts.{lines_of}
-use Rattle.ordup_answers.specs.ScriptStates.{Stands, first_state}
-use Rattle.ordup_script.specs.Answerers.{IsLater}
+use Rattle.ordup_script.specs.Answerers.{HasAnswered, HasStopped, IsLater}
 use Rattle.ordup_script.specs.Explainers.{HasExplained, HasStoppedExplaining, answerer_of}
 use Rattle.ordup_script.specs.Explanations.{Explains, NoteStreams, Notes, NotesFront}
 use Rattle.ordup_script.specs.Readings.{Reads}
+use Rattle.ordup_script.specs.Runs.{Runs}
+use Rattle.ordup_script.proofs.Runs.{stopped}
 use Rattle.ordup_script.specs.Streams.{Input}
 use Rattle.ordup_script.specs.declared.explaining.Explainer.{Explainer}
 use Rattle.ordup_script.specs.declared.line_reader.Extent.{Extent}
@@ -95,26 +96,13 @@ module _ {W E A : Type 0} (contents : W → Option (List ℕ)) (noted : E → Op
   stopped_later first now input e (script, took, inl each) = ((each []).answered.later, (each []).faults)
   stopped_later first now input e (script, took, inr (end, within, h)) = (h.answered.later, h.faults)
 
--- nothing was explained before the first line
-pub starts : {W E A : Type 0} (contents : W → Option (List ℕ)) (noted : E → Option (List ℕ)) (e : Explainer W E A)
-    → Stands e.script.now first_state → e.answers.now.text ≡ [] → e.notes.now.text ≡ []
-    → e.tally.now.lines ≡ 0 → e.tally.now.is_refused ≡ false
-    → HasExplained contents noted e e []
-starts contents noted e script answers notes lines refused = record {
-  answered = record {
-    later = record { script = refl; output = refl };
-    script = script;
-    sent = [];
-    wrote = Appends-nil _;
-    text = sym answers;
-  };
-  faults = refl;
-  state = refl;
-  count = lines;
-  refused = refused;
-  text = [];
-  notes = refl;
-  sent = [];
-  wrote = Appends-nil _;
-  kept = sym notes;
-}
+  -- it stopped at a line, so the run ended
+  pub stopped_run : (first now : Explainer W E A) (had has : Option (List ℕ)) (limit : ℕ) (e : ScriptFault)
+      → Reads (record { had = had; has = has; limit = limit }) (HasExplained contents noted first now)
+      (HasStoppedExplaining contents noted first now) (Err e)
+      → Runs {A = A} (record { had = had; has = has; old = contents first.output.now; new = contents now.output.now }) limit (Err e)
+  stopped_run first now had has limit e h =
+      stopped contents (answerer_of first) (answerer_of now) now.output.now had has limit e (λ later. refl)
+      (reads_weaker (record { had = had; has = has; limit = limit }) (HasExplained contents noted first now)
+      (HasAnswered contents (answerer_of first) (answerer_of now)) (HasStoppedExplaining contents noted first now)
+      (HasStopped contents (answerer_of first) (answerer_of now)) (λ lines h. h.answered) (λ lines e h. h.answered) (Err e) h)

@@ -2,10 +2,7 @@
 -- So how the reading ended says how the run ends.
 use Rattle.std.proofs.Common.{refl}
 use Rattle.std.proofs.lemmas.Result.{err_from_is_err_and}
-use Rattle.ordup_script.specs.Explainers.{HasExplained, HasStoppedExplaining, answerer_of}
-use Rattle.ordup_script.specs.Answerers.{HasAnswered, HasStopped}
-use Rattle.ordup_script.proofs.Explanation.{noted_all, noted_front, reads_weaker, stopped_later, stopped_noting}
-use Rattle.ordup_script.proofs.Runs.{stopped}
+use Rattle.ordup_script.proofs.Explanation.{noted_all, noted_front, stopped_later, stopped_noting, stopped_run}
 use Rattle.ordup_script.proofs.explaining.explain_in.Goals as goal
 
 pub returns-in_err-read_lines-clause-later : goal.returns-in_err-read_lines-clause-later
@@ -19,13 +16,8 @@ returns-in_err-read_lines-clause-faults g c =
 pub returns-in_err-read_lines-clause-runs : goal.returns-in_err-read_lines-clause-runs
 returns-in_err-read_lines-clause-runs g c =
     let failed = err_from_is_err_and c.from_residual.result c.from_residual.ensures.1 in
-    let first = answerer_of c.args.explainer.now in
-    let now = answerer_of c.read_lines.new.taker in
-    rw (failed.1, failed.2) (stopped g.W.Write.contents first now _ _ _ _ c.in_err-read_lines.field-0.0 (λ later. refl)
-    (reads_weaker _ (HasExplained g.W.Write.contents g.E.Write.contents c.args.explainer.now c.read_lines.new.taker)
-    (HasAnswered g.W.Write.contents first now)
-    (HasStoppedExplaining g.W.Write.contents g.E.Write.contents c.args.explainer.now c.read_lines.new.taker)
-    (HasStopped g.W.Write.contents first now) (λ lines h. h.answered) (λ lines e h. h.answered) _ c.in_err-read_lines.ensures.lines))
+    rw (failed.1, failed.2) (stopped_run g.W.Write.contents g.E.Write.contents c.args.explainer.now c.read_lines.new.taker _ _ _
+    c.in_err-read_lines.field-0.0 c.in_err-read_lines.ensures.lines)
 
 pub returns-in_err-read_lines-clause-explains : goal.returns-in_err-read_lines-clause-explains
 returns-in_err-read_lines-clause-explains g c =

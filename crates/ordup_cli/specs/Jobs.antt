@@ -1,5 +1,5 @@
 -- What the jobs of the program do: what was read and written, what was noted on the faults, and how the job ended.
-use Rattle.std.specs.Prelude.{◌≡◌, ◌×◌, string_bytes}
+use Rattle.std.specs.Prelude.{◌≡◌, string_bytes}
 use Rattle.ordup_command_line.specs.declared.command_line.Job.{Job}
 use Rattle.ordup_command_line.specs.declared.command_line.Job.TheVariants as job
 use Rattle.ordup_script.specs.Streams.{Bytes, Streams}

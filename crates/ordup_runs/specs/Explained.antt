@@ -1,5 +1,5 @@
 -- What running a script reads, prints and notes where its refusals are explained or count, and how that ends.
-use Rattle.std.specs.Prelude.{◌≡◌, ◌×◌, ◌&&◌, Bool, true, if◌then◌else◌, None, Result, Ok, Err}
+use Rattle.std.specs.Prelude.{◌≡◌, ◌&&◌, Bool, true, if◌then◌else◌, None, Result, Ok, Err}
 use Rattle.std.specs.declared.alloc.Global.{Global}
 use Rattle.ordup_answers.specs.declared.script_end.ScriptEnd.{ScriptEnd}
 use Rattle.ordup_script.specs.Explanations.{Explains, end_in, refused_in}

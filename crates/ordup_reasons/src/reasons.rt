@@ -69,6 +69,7 @@ pub fn push_reason<A: Allocator + Copy>(
             first,
             b" comes after `start`, and no `start` was accepted: see what it was answered",
         ),
+        3 if is(first, "start") => out.push(b"the store is started: `start` comes once"),
         3 => push_about(
             out,
             b"",

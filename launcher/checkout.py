@@ -11,12 +11,13 @@ import subprocess
 import sys
 from concurrent.futures import Future, wait
 from pathlib import Path
-from typing import Any, Iterable, Iterator, Sequence, TypeVar, Union
+from typing import TYPE_CHECKING, Any, Iterable, Iterator, Sequence, TypeVar, Union
 
 TOP = Path(__file__).resolve().parent.parent
 sys.path.append(str(TOP / "checks"))
 
-from source.tree import Crate, below, read_crates
+if TYPE_CHECKING:
+    from source.tree import Crate
 
 OUT = TOP / "out"
 begun: list[subprocess.Popen[bytes]] = []
@@ -92,6 +93,8 @@ def sources(*others: str) -> bytes:
 
 def crates_below(names: Iterable[str]) -> dict[str, Crate]:
     """These crates and all that they stand on, lowest first. Of those that crates.txt does not list none is there."""
+    from source.tree import below, read_crates  # Who runs a script does not wait for it.
+
     known = read_crates((TOP / "crates.txt").read_text(encoding="utf-8"))
     return {it: known[it] for name in names for it in [*below(known, name), name] if it in known}
 

@@ -239,7 +239,7 @@ class Mute(EndCase):
         self.assertEqual(ended[0].unanswered, ["settle"])
 
     def test_a_time_limit(self):
-        store = self.store(self.stand_in("read line\necho ok start\nsleep 60\n"), timeout=0.2)
+        store = self.store(self.stand_in("read line\necho ok start\nsleep 60\n"), timeout=1.0)
         with self.soon(), self.assertRaises(TimedOut) as caught:
             store.commands(["start", "settle"])
         self.assertEqual(caught.exception.unanswered, ["settle"])
